@@ -1,0 +1,4 @@
+-- Laws of the packet layer's definitions: what the functions' proofs share, and what the layers above cite.
+pub mod Pick
+pub mod Field
+pub mod Lengths

@@ -1,0 +1,50 @@
+-- "Byte count" and lower address of a read, and the completion that answers one which is refused.
+use Prim.Native.Nat.{ℕ, _+_, _-_, _*_, _%_, _^_}
+use mathlib.Core.Bool.{Bool}
+use lib.Dec.{eqb}
+use Rattle.tlp.specs.Pick.{pick}
+use Rattle.tlp.specs.Field.{field, place}
+use Rattle.tlp.specs.Kind.{completion}
+use Rattle.tlp.specs.Fields.{trafficClass, attributes, dwords, requesterId, tag, lastEnables, firstEnables, address}
+use Rattle.tlp.specs.declared.header.Header.{Header}
+
+-- byte `i` of a dword is enabled
+abbrev pub enabled : ℕ → ℕ → Bool
+enabled i e = eqb (field i 1 e) 1
+
+-- the place of "the lowest enabled byte"; 0 where none is
+abbrev pub lowest : ℕ → ℕ
+lowest e = pick (enabled 0 e) 0 (pick (enabled 1 e) 1 (pick (enabled 2 e) 2 (pick (enabled 3 e) 3 0)))
+
+-- the place of "the highest enabled byte"; 0 where none is
+abbrev pub highest : ℕ → ℕ
+highest e = pick (enabled 3 e) 3 (pick (enabled 2 e) 2 (pick (enabled 1 e) 1 0))
+
+-- "Length above 1: 4 × Length, less the clear bits below the lowest .. of the first dword, less the clear bits above the highest .. of the last. Length 1: highest enabled place less lowest, plus 1"
+unfoldable pub byteCountOf : ℕ → ℕ → ℕ → ℕ
+byteCountOf n first last =
+    pick (eqb n 1)
+    (highest first - lowest first + 1)
+    (4 * n - lowest first - (3 - highest last))
+
+-- the byte count of a read
+abbrev pub byteCount : Header → ℕ
+byteCount h = byteCountOf (dwords h) (firstEnables h) (lastEnables h)
+
+-- "address bits 6:2 and the place of the lowest enabled byte"
+abbrev pub lowerAddress : Header → ℕ
+lowerAddress h = place 2 (field 2 5 (address h)) + lowest (firstEnables h)
+
+-- the status of an answer to a refused read: unsupported request
+abbrev pub unsupportedRequest : ℕ
+unsupportedRequest = 1
+
+-- "an answered read gets a completion": its header words, from the read and the completer's ID; BCM is 0, and 4,096 "is written 0"
+abbrev pub answerTo : Header → ℕ → Header
+answerTo h completer =
+    record {
+      w0 = place 24 completion + place 20 (trafficClass h) + place 12 (attributes h);
+      w1 = place 16 completer + place 13 unsupportedRequest + byteCount h % 2 ^ 12;
+      w2 = place 16 (requesterId h) + place 8 (tag h) + lowerAddress h;
+      w3 = 0;
+    }

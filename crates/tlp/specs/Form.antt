@@ -1,0 +1,98 @@
+-- Reading a packet: the packet, or the first rule that it breaks, in the paper's order.
+use Prim.Native.Nat.{ℕ, _+_, _*_, _%_, _^_}
+use mathlib.Core.List.{List}
+use mathlib.Core.Bool.{Bool, not, _&&_, _||_}
+use lib.ListN.{length}
+use lib.Dec.{eqb, ltb, leb}
+use Rattle.tlp.specs.Pick.{pick}
+use Rattle.tlp.specs.Kind.{isRead, isCompletion, isCarried, hasFourWords}
+use Rattle.tlp.specs.Words.{headerOf}
+use Rattle.tlp.specs.Fields.{kind, hasDigest, addressType, dwords, totalBytes, lastEnables, firstEnables, address, highWord}
+use Rattle.tlp.specs.declared.header.Header.{Header}
+use Rattle.tlp.specs.declared.form.Rule.{Rule}
+use Rattle.tlp.specs.declared.form.Rule.the-variants.{TooShort, NotCarried, WrongLength, Enables, Contiguity, PageCrossing, ZeroHighWord}
+use Rattle.tlp.specs.declared.form.Packet.{Packet}
+use Rattle.tlp.specs.declared.form.Packet.the-variants.{Read, Write, Completion, Broken}
+
+-- "fewer than 12 bytes"
+abbrev pub tooShort : ℕ → Bool
+tooShort n = ltb n 12
+
+-- "another kind; TD set; AT not 0"
+abbrev pub notCarried : Header → Bool
+notCarried h = not (isCarried (kind h)) || hasDigest h || not (eqb (addressType h) 0)
+
+-- "header or data length wrong": longer is as wrong as shorter
+abbrev pub wrongLength : ℕ → Header → Bool
+wrongLength n h = not (eqb n (totalBytes h))
+
+-- "Length 1: last enables 0 and first enables not 0. Length above 1: neither is 0."
+abbrev pub enablesBroken : Header → Bool
+enablesBroken h =
+    pick (eqb (dwords h) 1)
+    (not (eqb (lastEnables h) 0) || eqb (firstEnables h) 0)
+    (eqb (firstEnables h) 0 || eqb (lastEnables h) 0)
+
+-- "the first must be one of 1111, 1110, 1100, 1000": no gap up to the next dword
+abbrev pub reachesUp : ℕ → Bool
+reachesUp e = eqb e 0b1111 || eqb e 0b1110 || eqb e 0b1100 || eqb e 0b1000
+
+-- "the last one of 0001, 0011, 0111, 1111": no gap from the dword before
+abbrev pub reachesDown : ℕ → Bool
+reachesDown e = eqb e 0b0001 || eqb e 0b0011 || eqb e 0b0111 || eqb e 0b1111
+
+-- "Length above 1 .. except at Length 2 with address a multiple of 8": gaps are allowed
+abbrev pub gapsAllowed : Header → Bool
+gapsAllowed h = eqb (dwords h) 1 || (eqb (dwords h) 2 && eqb (address h % 8) 0)
+
+-- the first or the last dword has a gap where none is allowed
+abbrev pub contiguityBroken : Header → Bool
+contiguityBroken h = not (gapsAllowed h) && not (reachesUp (firstEnables h) && reachesDown (lastEnables h))
+
+-- "(address mod 4096) + 4 × Length ≤ 4096" does not hold
+abbrev pub crossesPage : Header → Bool
+crossesPage h = ltb 4096 (address h % 4096 + 4 * dwords h)
+
+-- "a 64-bit header has a high word other than 0" does not hold
+abbrev pub zeroHighWord : Header → Bool
+zeroHighWord h = hasFourWords (kind h) && eqb (highWord h) 0
+
+-- "Request form": the request by its kind, or the first rule broken
+unfoldable pub requestForm : Header → Packet
+requestForm h =
+    pick (enablesBroken h) (Broken Enables)
+    (pick (contiguityBroken h) (Broken Contiguity)
+    (pick (crossesPage h) (Broken PageCrossing)
+    (pick (zeroHighWord h) (Broken ZeroHighWord)
+    (pick (isRead (kind h)) (Read h)
+    (Write h)))))
+
+-- a packet of n bytes with these header words
+unfoldable pub formOf : ℕ → Header → Packet
+formOf n h =
+    pick (tooShort n) (Broken TooShort)
+    (pick (notCarried h) (Broken NotCarried)
+    (pick (wrongLength n h) (Broken WrongLength)
+    (pick (isCompletion (kind h)) (Completion h)
+    (requestForm h))))
+
+-- reading a packet
+abbrev pub packetOf : List ℕ → Packet
+packetOf s = formOf (length s) (headerOf s)
+
+-- the paper's refusal number of each rule: 4 for "not carried", 3 for the others
+abbrev pub ruleNumber : Rule → ℕ
+ruleNumber TooShort = 3
+ruleNumber NotCarried = 4
+ruleNumber WrongLength = 3
+ruleNumber Enables = 3
+ruleNumber Contiguity = 3
+ruleNumber PageCrossing = 3
+ruleNumber ZeroHighWord = 3
+
+-- the refusal number of what was read; 0, which is no refusal, of a packet that breaks no rule
+abbrev pub packetNumber : Packet → ℕ
+packetNumber (Read h) = 0
+packetNumber (Write h) = 0
+packetNumber (Completion h) = 0
+packetNumber (Broken r) = ruleNumber r

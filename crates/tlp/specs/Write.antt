@@ -1,0 +1,22 @@
+-- Writing a packet over the start of a buffer.
+use Prim.Native.Nat.{ℕ, _+_}
+use mathlib.Core.List.{List, [], _++_}
+use lib.ListN.{length, take, drop}
+use lib.Dec.{leb}
+use Rattle.tlp.specs.Pick.{pick}
+use Rattle.tlp.specs.Kind.{hasFourWords}
+use Rattle.tlp.specs.Words.{wordBytes}
+use Rattle.tlp.specs.Fields.{kind}
+use Rattle.tlp.specs.declared.header.Header.{Header}
+
+-- a header's own bytes: three words, or four
+unfoldable pub headerList : Header → List ℕ
+headerList h = wordBytes (h .w0) ++ (wordBytes (h .w1) ++ (wordBytes (h .w2) ++ pick (hasFourWords (kind h)) (wordBytes (h .w3)) []))
+
+-- "header, then" data
+abbrev pub packetList : Header → List ℕ → List ℕ
+packetList h payload = headerList h ++ payload
+
+-- the bytes xs written into o from place `at` on, "unchanged beyond"; where they do not fit, nothing is written
+unfoldable pub over : List ℕ → ℕ → List ℕ → List ℕ
+over o at xs = pick (leb (at + length xs) (length o)) (take at o ++ (xs ++ drop (at + length xs) o)) o
