@@ -2,3 +2,5 @@
 pub mod Pick
 pub mod Field
 pub mod Lengths
+pub mod Count
+pub mod Write

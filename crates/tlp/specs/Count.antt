@@ -39,12 +39,18 @@ lowerAddress h = place 2 (field 2 5 (address h)) + lowest (firstEnables h)
 abbrev pub unsupportedRequest : ℕ
 unsupportedRequest = 1
 
--- "an answered read gets a completion": its header words, from the read and the completer's ID; BCM is 0, and 4,096 "is written 0"
+-- "an answered read gets a completion": "word 0 is 0x0A000000 with the read's TC and Attr 13:12"
+abbrev pub answerWord0 : Header → ℕ
+answerWord0 h = place 24 completion + place 20 (trafficClass h) + place 12 (attributes h)
+
+-- "completer .., status 1, BCM 0, byte count", in which 4,096 "is written 0"
+abbrev pub answerWord1 : Header → ℕ → ℕ
+answerWord1 h completer = place 16 completer + place 13 unsupportedRequest + byteCount h % 2 ^ 12
+
+-- "its requester ID, tag, lower address"
+abbrev pub answerWord2 : Header → ℕ
+answerWord2 h = place 16 (requesterId h) + place 8 (tag h) + lowerAddress h
+
+-- the whole answer, three words
 abbrev pub answerTo : Header → ℕ → Header
-answerTo h completer =
-    record {
-      w0 = place 24 completion + place 20 (trafficClass h) + place 12 (attributes h);
-      w1 = place 16 completer + place 13 unsupportedRequest + byteCount h % 2 ^ 12;
-      w2 = place 16 (requesterId h) + place 8 (tag h) + lowerAddress h;
-      w3 = 0;
-    }
+answerTo h completer = record { w0 = answerWord0 h; w1 = answerWord1 h completer; w2 = answerWord2 h; w3 = 0 }

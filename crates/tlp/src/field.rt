@@ -1,7 +1,7 @@
 // A field of a 32-bit word, by the place of its lowest bit and its width.
 ghost use mathlib.Core.Path.{_≡_};
 ghost use Prim.Native.Nat.{_+_, _≤_, _<_, _^_};
-ghost use Rattle.tlp.specs.Field.{field, withField};
+ghost use Rattle.tlp.specs.Field.{field, place, withField};
 
 // The field that is `width` bits wide, its lowest bit at `low`.
 pub(crate) fn field(w: u32, low: u32, width: u32) -> u32
@@ -17,4 +17,12 @@ pub(crate) fn with_field(w: u32, low: u32, width: u32, x: u32) -> u32
     ensures { λ r. ⌜ r ≡ withField low width w x ⌝ }
 {
     w - (field(w, low, width) << low) + (x << low)
+}
+
+// A value at its place in a word.
+pub(crate) fn place(low: u32, x: u32) -> u32
+    requires { ⌜ (low < 32) × (place low x < 2 ^ 32) ⌝ }
+    ensures { λ r. ⌜ r ≡ place low x ⌝ }
+{
+    x << low
 }

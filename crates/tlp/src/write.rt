@@ -1,1 +1,78 @@
-// later
+// Reading a part of a packet, and writing header and data over the start of a buffer.
+ghost use mathlib.Core.Path.{_≡_};
+ghost use Prim.Native.Nat.{_+_, _≤_};
+ghost use lib.ListN.{length, drop};
+ghost use Rattle.tlp.specs.Kind.{headerBytes};
+ghost use Rattle.tlp.specs.Fields.{kind};
+ghost use Rattle.tlp.specs.Words.{wordBytes};
+ghost use Rattle.tlp.specs.Write.{threeWords, headerList, packetList, over, writtenBytes};
+use crate::header::Header;
+
+// The part of a packet after its first `n` bytes; nothing where it has no more.
+pub fn after(packet: &[u8], n: usize) -> &[u8]
+    ensures { λ r. ⌜ now r ≡ drop n (now (packet .entry)) ⌝ }
+{
+    if n <= packet.len() {
+        &packet[n..]
+    } else {
+        &packet[..0]
+    }
+}
+
+// A word's four bytes at `at`.
+fn put_word(out: &mut [u8], at: usize, w: u32)
+    requires { ⌜ at + 4 ≤ length (now out) ⌝ }
+    ensures { λ r. ⌜ now (out .exit) ≡ over (now (out .entry)) at (wordBytes w) ⌝ }
+{
+    out[at] = (w / 0x0100_0000 % 256) as u8;
+    out[at + 1] = (w / 0x0001_0000 % 256) as u8;
+    out[at + 2] = (w / 0x0100 % 256) as u8;
+    out[at + 3] = (w % 256) as u8;
+}
+
+// The bytes of `payload` at `at`.
+fn put_bytes(out: &mut [u8], at: usize, payload: &[u8])
+    requires { ⌜ at + length (now payload) ≤ length (now out) ⌝ }
+    ensures { λ r. ⌜ now (out .exit) ≡ over (now (out .entry)) at (now (payload .entry)) ⌝ }
+{
+    for i in 0..payload.len() {
+        out[at + i] = payload[i];
+    }
+}
+
+impl Header {
+    // The first three words, at the start.
+    fn put_three(self, out: &mut [u8])
+        requires { ⌜ 12 ≤ length (now out) ⌝ }
+        ensures { λ r. ⌜ now (out .exit) ≡ over (now (out .entry)) 0 (threeWords self) ⌝ }
+    {
+        put_word(out, 0, self.w0);
+        put_word(out, 4, self.w1);
+        put_word(out, 8, self.w2);
+    }
+
+    // The header's own three words, or four, at the start.
+    fn put(self, out: &mut [u8])
+        requires { ⌜ headerBytes (kind self) ≤ length (now out) ⌝ }
+        ensures { λ r. ⌜ now (out .exit) ≡ over (now (out .entry)) 0 (headerList self) ⌝ }
+    {
+        self.put_three(out);
+        if self.has_four_words() {
+            put_word(out, 12, self.w3);
+        }
+    }
+
+    // Header and data over the start of a buffer, and how many bytes that is; nothing, and 0, where they do not fit.
+    pub fn write(self, payload: &[u8], out: &mut [u8]) -> usize
+        ensures { λ r. ⌜ r ≡ writtenBytes (length (now (out .entry))) (packetList self (now (payload .entry))) ⌝ }
+        ensures { λ r. ⌜ now (out .exit) ≡ over (now (out .entry)) 0 (packetList self (now (payload .entry))) ⌝ }
+    {
+        let n = self.header_bytes();
+        if n + payload.len() <= out.len() {
+            self.put(out);
+            put_bytes(out, n, payload);
+            return n + payload.len();
+        }
+        0
+    }
+}

@@ -1,7 +1,8 @@
 -- How long the parts of a packet can be: a header of 12 or 16 bytes, data of none or 4 to 4,096, at most 4,112 in all.
 -- Each choice of the definitions is bounded in both its cases. Assumes nothing.
 use Prim.Native.Nat.{ℕ, _+_, _*_, _≤_, _<_}
-use mathlib.Core.Path.{_≡_, refl}
+use mathlib.Core.Path.{_≡_, refl, sym}
+use mathlib.Core.Bool.{true}
 use mathlib.Core.Logic.{_⊎_, inl, inr}
 use native.Mathlib.Omega.{arith}
 use borrow.Author.Tests.{eqb-false}
@@ -9,11 +10,14 @@ use lib.Dec.{eqb}
 use Rattle.tlp.specs.Kind.{hasData, hasFourWords, headerBytes}
 use Rattle.tlp.specs.Fields.{kind, lengthField, dwords, dataBytes, totalBytes}
 use Rattle.tlp.specs.declared.header.Header.{Header}
-use Rattle.tlp.proofs.Laws.Pick.{either}
+use Rattle.tlp.proofs.Laws.Pick.{hit, either}
 
 -- a header is 12 or 16 bytes long
 pub header-12-or-16 : (k : ℕ) → (headerBytes k ≡ 12) ⊎ (headerBytes k ≡ 16)
 header-12-or-16 k = either (λ (n : ℕ). (n ≡ 12) ⊎ (n ≡ 16)) (hasFourWords k) (λ _. inr refl) (λ _. inl refl)
+
+pub header-16 : (k : ℕ) → hasFourWords k ≡ true → headerBytes k ≡ 16
+header-16 k e = sym (hit (hasFourWords k) 16 12 e refl)
 
 pub header-bounds : (k : ℕ) → (12 ≤ headerBytes k) × (headerBytes k ≤ 16)
 header-bounds k = either (λ (n : ℕ). (12 ≤ n) × (n ≤ 16)) (hasFourWords k) (λ _. omega arith) (λ _. omega arith)
