@@ -1,6 +1,5 @@
--- Laws of the packet layer's definitions: what the functions' proofs share, and what the layers above cite.
-pub mod Pick
-pub mod Field
-pub mod Lengths
+-- Laws of the packet's definitions: what the functions' proofs share, and what the layers above cite.
 pub mod Count
 pub mod Write
+pub mod Form
+pub mod Answer

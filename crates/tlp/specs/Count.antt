@@ -2,11 +2,11 @@
 use Prim.Native.Nat.{ℕ, _+_, _-_, _*_, _%_, _^_}
 use mathlib.Core.Bool.{Bool}
 use lib.Dec.{eqb}
-use Rattle.tlp.specs.Pick.{pick}
-use Rattle.tlp.specs.Field.{field, place}
-use Rattle.tlp.specs.Kind.{completion}
-use Rattle.tlp.specs.Fields.{trafficClass, attributes, dwords, requesterId, tag, lastEnables, firstEnables, address}
-use Rattle.tlp.specs.declared.header.Header.{Header}
+use Rattle.header.specs.Pick.{pick}
+use Rattle.header.specs.Field.{field, place}
+use Rattle.header.specs.Kind.{completion}
+use Rattle.header.specs.Fields.{trafficClass, attributes, dwords, requesterId, tag, lastEnables, firstEnables, address}
+use Rattle.header.specs.declared.words.Header.{Header}
 
 -- byte `i` of a dword is enabled
 abbrev pub enabled : ℕ → ℕ → Bool

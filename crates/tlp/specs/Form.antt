@@ -4,11 +4,11 @@ use mathlib.Core.List.{List}
 use mathlib.Core.Bool.{Bool, not, _&&_, _||_}
 use lib.ListN.{length}
 use lib.Dec.{eqb, ltb, leb}
-use Rattle.tlp.specs.Pick.{pick}
-use Rattle.tlp.specs.Kind.{isRead, isCompletion, isCarried, hasFourWords}
-use Rattle.tlp.specs.Words.{headerOf}
-use Rattle.tlp.specs.Fields.{kind, hasDigest, addressType, dwords, totalBytes, lastEnables, firstEnables, address, highWord}
-use Rattle.tlp.specs.declared.header.Header.{Header}
+use Rattle.header.specs.Pick.{pick}
+use Rattle.header.specs.Kind.{isRead, isCompletion, isCarried, hasFourWords}
+use Rattle.header.specs.Words.{headerOf}
+use Rattle.header.specs.Fields.{kind, hasDigest, addressType, dwords, totalBytes, lastEnables, firstEnables, address, highWord}
+use Rattle.header.specs.declared.words.Header.{Header}
 use Rattle.tlp.specs.declared.form.Rule.{Rule}
 use Rattle.tlp.specs.declared.form.Rule.the-variants.{TooShort, NotCarried, WrongLength, Enables, Contiguity, PageCrossing, ZeroHighWord}
 use Rattle.tlp.specs.declared.form.Packet.{Packet}
@@ -57,15 +57,18 @@ crossesPage h = ltb 4096 (address h % 4096 + 4 * dwords h)
 abbrev pub zeroHighWord : Header → Bool
 zeroHighWord h = hasFourWords (kind h) && eqb (highWord h) 0
 
--- "Request form": the request by its kind, or the first rule broken
+-- a request that breaks no rule, by its kind
+abbrev pub requestOf : Header → Packet
+requestOf h = pick (isRead (kind h)) (Read h) (Write h)
+
+-- "Request form": the request, or the first rule broken
 unfoldable pub requestForm : Header → Packet
 requestForm h =
     pick (enablesBroken h) (Broken Enables)
     (pick (contiguityBroken h) (Broken Contiguity)
     (pick (crossesPage h) (Broken PageCrossing)
     (pick (zeroHighWord h) (Broken ZeroHighWord)
-    (pick (isRead (kind h)) (Read h)
-    (Write h)))))
+    (requestOf h))))
 
 -- a packet of n bytes with these header words
 unfoldable pub formOf : ℕ → Header → Packet

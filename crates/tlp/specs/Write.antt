@@ -3,11 +3,11 @@ use Prim.Native.Nat.{ℕ, _+_}
 use mathlib.Core.List.{List, [], _++_}
 use lib.ListN.{length, take, drop}
 use lib.Dec.{leb}
-use Rattle.tlp.specs.Pick.{pick}
-use Rattle.tlp.specs.Kind.{hasFourWords}
-use Rattle.tlp.specs.Words.{wordBytes}
-use Rattle.tlp.specs.Fields.{kind}
-use Rattle.tlp.specs.declared.header.Header.{Header}
+use Rattle.header.specs.Pick.{pick}
+use Rattle.header.specs.Kind.{hasFourWords}
+use Rattle.header.specs.Words.{wordBytes}
+use Rattle.header.specs.Fields.{kind}
+use Rattle.header.specs.declared.words.Header.{Header}
 
 -- the first three words, which every header has
 abbrev pub threeWords : Header → List ℕ

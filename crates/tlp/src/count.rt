@@ -1,7 +1,7 @@
 // "Byte count" and lower address of a read, and the completion that answers one which is refused.
 ghost use mathlib.Core.Path.{_≡_};
 ghost use Prim.Native.Nat.{_<_, _^_};
-ghost use Rattle.tlp.specs.Field.{place};
+ghost use Rattle.header.specs.Field.{place};
 ghost use Rattle.tlp.specs.Count.{
   enabled,
   lowest,
@@ -14,10 +14,8 @@ ghost use Rattle.tlp.specs.Count.{
   answerWord2,
   answerTo,
 };
-use crate::field::field;
-use crate::field::place;
-use crate::header::Header;
-use crate::kind::Kind;
+use header::kind::Kind;
+use header::words::Header;
 
 // The status of an answer to a refused read.
 const UNSUPPORTED_REQUEST: u32 = 1;
@@ -27,7 +25,7 @@ fn enabled(i: u32, e: u8) -> bool
     requires { ⌜ i < 4 ⌝ }
     ensures { λ r. ⌜ r ≡ enabled i e ⌝ }
 {
-    field(e as u32, i, 1) == 1
+    (e >> i) % 2 == 1
 }
 
 // The place of the lowest enabled byte; 0 where none is.
@@ -71,57 +69,61 @@ fn count_of(n: u16, first: u8, last: u8) -> u16
     }
 }
 
-impl Header {
-    // How many bytes a read asks for, 1 to 4,096, from the lowest enabled to the highest.
-    pub fn byte_count(self) -> u16
-        ensures { λ r. ⌜ r ≡ byteCount self ⌝ }
-    {
-        count_of(self.dwords(), self.first_enables(), self.last_enables())
-    }
+// A value at its place in a word.
+fn place(low: u32, x: u32) -> u32
+    requires { ⌜ (low < 32) × (place low x < 2 ^ 32) ⌝ }
+    ensures { λ r. ⌜ r ≡ place low x ⌝ }
+{
+    x << low
+}
 
-    // "address bits 6:2 and the place of the lowest enabled byte"
-    pub fn lower_address(self) -> u8
-        ensures { λ r. ⌜ r ≡ lowerAddress self ⌝ }
-    {
-        (self.address() / 4 % 32 * 4) as u8 + lowest(self.first_enables())
-    }
+// How many bytes a read asks for, 1 to 4,096, from the lowest enabled to the highest.
+pub fn byte_count(read: Header) -> u16
+    ensures { λ r. ⌜ r ≡ byteCount read ⌝ }
+{
+    count_of(read.dwords(), read.first_enables(), read.last_enables())
+}
 
-    // "0x0A000000 with the read's TC and Attr 13:12"
-    fn answer_word_0(self) -> u32
-        ensures { λ r. ⌜ r ≡ answerWord0 self ⌝ }
-    {
-        place(24, Kind::COMPLETION as u32)
-            + place(20, self.traffic_class() as u32)
-            + place(12, self.attributes() as u32)
-    }
+// "address bits 6:2 and the place of the lowest enabled byte"
+pub fn lower_address(read: Header) -> u8
+    ensures { λ r. ⌜ r ≡ lowerAddress read ⌝ }
+{
+    (read.address() / 4 % 32 * 4) as u8 + lowest(read.first_enables())
+}
 
-    // "completer, status 1, BCM 0, byte count"
-    fn answer_word_1(self, completer: u16) -> u32
-        ensures { λ r. ⌜ r ≡ answerWord1 self completer ⌝ }
-    {
-        place(16, completer as u32)
-            + place(13, UNSUPPORTED_REQUEST)
-            + (self.byte_count() as u32) % 4096
-    }
+// "0x0A000000 with the read's TC and Attr 13:12"
+fn answer_word_0(read: Header) -> u32
+    ensures { λ r. ⌜ r ≡ answerWord0 read ⌝ }
+{
+    place(24, Kind::COMPLETION as u32)
+        + place(20, read.traffic_class() as u32)
+        + place(12, read.attributes() as u32)
+}
 
-    // "its requester ID, tag, lower address"
-    fn answer_word_2(self) -> u32
-        ensures { λ r. ⌜ r ≡ answerWord2 self ⌝ }
-    {
-        place(16, self.requester_id() as u32)
-            + place(8, self.tag() as u32)
-            + (self.lower_address() as u32)
-    }
+// "completer, status 1, BCM 0, byte count"
+fn answer_word_1(read: Header, completer: u16) -> u32
+    ensures { λ r. ⌜ r ≡ answerWord1 read completer ⌝ }
+{
+    place(16, completer as u32) + place(13, UNSUPPORTED_REQUEST) + (byte_count(read) as u32) % 4096
+}
 
-    // The completion that answers this read where it is refused.
-    pub fn answer(self, completer: u16) -> Header
-        ensures { λ r. ⌜ r ≡ answerTo self completer ⌝ }
-    {
-        Header {
-            w0: self.answer_word_0(),
-            w1: self.answer_word_1(completer),
-            w2: self.answer_word_2(),
-            w3: 0,
-        }
+// "its requester ID, tag, lower address"
+fn answer_word_2(read: Header) -> u32
+    ensures { λ r. ⌜ r ≡ answerWord2 read ⌝ }
+{
+    place(16, read.requester_id() as u32)
+        + place(8, read.tag() as u32)
+        + (lower_address(read) as u32)
+}
+
+// The completion that answers this read where it is refused.
+pub fn answer(read: Header, completer: u16) -> Header
+    ensures { λ r. ⌜ r ≡ answerTo read completer ⌝ }
+{
+    Header {
+        w0: answer_word_0(read),
+        w1: answer_word_1(read, completer),
+        w2: answer_word_2(read),
+        w3: 0,
     }
 }

@@ -17,7 +17,7 @@ ghost use Rattle.tlp.specs.Form.{
   packetOf,
   ruleNumber,
 };
-use crate::header::Header;
+use header::words::Header;
 
 // The rules of form, in the order in which they are looked at.
 pub enum Rule {

@@ -2,11 +2,11 @@
 ghost use mathlib.Core.Path.{_≡_};
 ghost use Prim.Native.Nat.{_+_, _≤_};
 ghost use lib.ListN.{length, drop};
-ghost use Rattle.tlp.specs.Kind.{headerBytes};
-ghost use Rattle.tlp.specs.Fields.{kind};
-ghost use Rattle.tlp.specs.Words.{wordBytes};
+ghost use Rattle.header.specs.Kind.{headerBytes};
+ghost use Rattle.header.specs.Fields.{kind};
+ghost use Rattle.header.specs.Words.{wordBytes};
 ghost use Rattle.tlp.specs.Write.{threeWords, headerList, packetList, over, writtenBytes};
-use crate::header::Header;
+use header::words::Header;
 
 // The part of a packet after its first `n` bytes; nothing where it has no more.
 pub fn after(packet: &[u8], n: usize) -> &[u8]
@@ -40,39 +40,37 @@ fn put_bytes(out: &mut [u8], at: usize, payload: &[u8])
     }
 }
 
-impl Header {
-    // The first three words, at the start.
-    fn put_three(self, out: &mut [u8])
-        requires { ⌜ 12 ≤ length (now out) ⌝ }
-        ensures { λ r. ⌜ now (out .exit) ≡ over (now (out .entry)) 0 (threeWords self) ⌝ }
-    {
-        put_word(out, 0, self.w0);
-        put_word(out, 4, self.w1);
-        put_word(out, 8, self.w2);
-    }
+// The first three words, at the start.
+fn put_three(h: Header, out: &mut [u8])
+    requires { ⌜ 12 ≤ length (now out) ⌝ }
+    ensures { λ r. ⌜ now (out .exit) ≡ over (now (out .entry)) 0 (threeWords h) ⌝ }
+{
+    put_word(out, 0, h.w0);
+    put_word(out, 4, h.w1);
+    put_word(out, 8, h.w2);
+}
 
-    // The header's own three words, or four, at the start.
-    fn put(self, out: &mut [u8])
-        requires { ⌜ headerBytes (kind self) ≤ length (now out) ⌝ }
-        ensures { λ r. ⌜ now (out .exit) ≡ over (now (out .entry)) 0 (headerList self) ⌝ }
-    {
-        self.put_three(out);
-        if self.has_four_words() {
-            put_word(out, 12, self.w3);
-        }
+// The header's own three words, or four, at the start.
+fn put_header(h: Header, out: &mut [u8])
+    requires { ⌜ headerBytes (kind h) ≤ length (now out) ⌝ }
+    ensures { λ r. ⌜ now (out .exit) ≡ over (now (out .entry)) 0 (headerList h) ⌝ }
+{
+    put_three(h, out);
+    if h.has_four_words() {
+        put_word(out, 12, h.w3);
     }
+}
 
-    // Header and data over the start of a buffer, and how many bytes that is; nothing, and 0, where they do not fit.
-    pub fn write(self, payload: &[u8], out: &mut [u8]) -> usize
-        ensures { λ r. ⌜ r ≡ writtenBytes (length (now (out .entry))) (packetList self (now (payload .entry))) ⌝ }
-        ensures { λ r. ⌜ now (out .exit) ≡ over (now (out .entry)) 0 (packetList self (now (payload .entry))) ⌝ }
-    {
-        let n = self.header_bytes();
-        if n + payload.len() <= out.len() {
-            self.put(out);
-            put_bytes(out, n, payload);
-            return n + payload.len();
-        }
-        0
+// Header and data over the start of a buffer, and how many bytes that is; nothing, and 0, where they do not fit.
+pub fn write(h: Header, payload: &[u8], out: &mut [u8]) -> usize
+    ensures { λ r. ⌜ r ≡ writtenBytes (length (now (out .entry))) (packetList h (now (payload .entry))) ⌝ }
+    ensures { λ r. ⌜ now (out .exit) ≡ over (now (out .entry)) 0 (packetList h (now (payload .entry))) ⌝ }
+{
+    let n = h.header_bytes();
+    if n + payload.len() <= out.len() {
+        put_header(h, out);
+        put_bytes(out, n, payload);
+        return n + payload.len();
     }
+    0
 }

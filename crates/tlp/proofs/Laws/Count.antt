@@ -6,12 +6,12 @@ use mathlib.Core.Bool.{Bool, true, false}
 use native.Mathlib.Omega.{arith}
 use borrow.Author.Tests.{eqb-false}
 use lib.Dec.{eqb}
-use Rattle.tlp.specs.Pick.{pick}
-use Rattle.tlp.specs.Fields.{dwords, firstEnables, lastEnables}
+use Rattle.header.specs.Pick.{pick}
+use Rattle.header.specs.Fields.{dwords, firstEnables, lastEnables}
 use Rattle.tlp.specs.Count.{enabled, lowest, highest, byteCountOf, byteCount}
-use Rattle.tlp.specs.declared.header.Header.{Header}
-use Rattle.tlp.proofs.Laws.Pick.{either}
-use Rattle.tlp.proofs.Laws.Lengths.{dwords-bounds}
+use Rattle.header.specs.declared.words.Header.{Header}
+use Rattle.header.proofs.Laws.Pick.{either}
+use Rattle.header.proofs.Laws.Lengths.{dwords-bounds}
 
 -- both places by the four bits: the lowest is at most the highest, and that is at most 3
 by-bits : (a b c d : Bool)

@@ -1,4 +1,5 @@
--- The laws of `over`: what it writes and leaves, that two writes side by side are one, and that stores byte by byte are it.
+-- The laws of `over`: what it writes and leaves, that two writes side by side are one, and that stores byte by byte are it;
+-- and of packets as lists of bytes: how long they are, and that the words read from them are those written.
 -- A buffer is what lies before, what is written, and what lies beyond; each law takes these parts apart. Assumes nothing.
 use Prim.Native.Nat.{ℕ, _+_, _-_, _≤_, _<_}
 use mathlib.Core.Path.{_≡_, refl, sym, ap, _∙_}
@@ -11,13 +12,14 @@ use borrow.Author.Tests.{leb-true, le-leb, lt-leb}
 use lib.Dec.{leb}
 use lib.ListN.{length, take, drop, set, length-append, length-take, length-drop}
 use lib.Seq.{take-at, drop-at, drop-append-add, drop-drop, length-take-le, take-length, sets-eq, paste}
-use Rattle.tlp.specs.Pick.{pick}
-use Rattle.tlp.specs.Kind.{hasFourWords, headerBytes}
-use Rattle.tlp.specs.Words.{wordBytes}
-use Rattle.tlp.specs.Fields.{kind}
+use Rattle.header.specs.Pick.{pick}
+use Rattle.header.specs.Kind.{hasFourWords, headerBytes}
+use Rattle.header.specs.Words.{wordAt, fourthWord, headerOf, wordBytes}
+use Rattle.header.specs.Fields.{kind}
 use Rattle.tlp.specs.Write.{over, threeWords, headerList, packetList, writtenBytes}
-use Rattle.tlp.specs.declared.header.Header.{Header}
-use Rattle.tlp.proofs.Laws.Pick.{hit, pass, either}
+use Rattle.header.specs.declared.words.Header.{Header}
+use Rattle.header.proofs.Laws.Pick.{hit, pass, either}
+use Rattle.header.proofs.Laws.Words.{Proper, words-equal, word-back}
 
 module _ (o : List ℕ) (at : ℕ) (xs : List ℕ) where
   -- where the bytes fit they stand between what lies before and what lies beyond
@@ -128,3 +130,17 @@ written-fits n xs h = sym (hit (leb (length xs) n) (length xs) 0 (le-leb (length
 
 pub written-short : (n : ℕ) (xs : List ℕ) → n < length xs → writtenBytes n xs ≡ 0
 written-short n xs h = sym (pass (leb (length xs) n) (length xs) 0 (lt-leb (length xs) n h) refl)
+
+-- the words that are read from a written packet are those that were written
+pub read-back : (h : Header) (payload : List ℕ) → Proper h → headerOf (packetList h payload) ≡ h
+unfolding wordAt headerList
+read-back h payload p =
+    words-equal (word-back (h .w0) (p .fits-0)) (word-back (h .w1) (p .fits-1)) (word-back (h .w2) (p .fits-2))
+    (by-kind (hasFourWords (kind h)) refl)
+  where
+    by-kind : (t : Bool) → hasFourWords (kind h) ≡ t → fourthWord (packetList h payload) ≡ h .w3
+    by-kind true e =
+        sym (hit (hasFourWords (kind h)) (wordAt (packetList h payload) 12) 0 e refl)
+        ∙ ap (λ (l : List ℕ). wordAt (threeWords h ++ l ++ payload) 12) (sym (hit (hasFourWords (kind h)) (wordBytes (h .w3)) [] e refl))
+        ∙ word-back (h .w3) (p .fits-3)
+    by-kind false e = sym (pass (hasFourWords (kind h)) (wordAt (packetList h payload) 12) 0 e refl) ∙ sym (p .lacks e)

@@ -3,7 +3,7 @@ use borrow.Author.Needs.{needs}
 use native.Mathlib.Omega.{arith}
 use borrow.Author.Tests.{eq-eqb, ne-eqb}
 use Rattle.tlp.specs.Count.{byteCountOf}
-use Rattle.tlp.proofs.Laws.Pick.{hit, pass}
+use Rattle.header.proofs.Laws.Pick.{hit, pass}
 use Rattle.tlp.proofs.Laws.Count.{places}
 use Rattle.tlp.proofs.count.count_of.Statement.{statement}
 use Rattle.tlp.proofs.count.count_of.Tie as tie

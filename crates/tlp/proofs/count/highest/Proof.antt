@@ -1,6 +1,6 @@
 -- Bit by bit, from the highest. Assumes nothing.
 use borrow.Author.Needs.{needs}
-use Rattle.tlp.proofs.Laws.Pick.{decide}
+use Rattle.header.proofs.Laws.Pick.{decide}
 use Rattle.tlp.proofs.count.highest.Statement.{statement}
 use Rattle.tlp.proofs.count.highest.Tie as tie
 

@@ -1,6 +1,6 @@
 -- Bit by bit, from the lowest. Assumes nothing.
 use borrow.Author.Needs.{needs}
-use Rattle.tlp.proofs.Laws.Pick.{decide}
+use Rattle.header.proofs.Laws.Pick.{decide}
 use Rattle.tlp.proofs.count.lowest.Statement.{statement}
 use Rattle.tlp.proofs.count.lowest.Tie as tie
 

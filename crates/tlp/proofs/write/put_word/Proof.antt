@@ -6,7 +6,7 @@ use mathlib.Core.Path.{_≡_}
 use Prim.Native.Nat.{_/_, _%_}
 use denote.Ref.{now}
 use Rattle.tlp.proofs.Laws.Write.{four-stores}
-use Rattle.tlp.specs.Field.{field}
+use Rattle.header.specs.Field.{field}
 use Rattle.tlp.proofs.write.put_word.Statement.{statement}
 use Rattle.tlp.proofs.write.put_word.Tie as tie
 
