@@ -1,5 +1,5 @@
 -- "Words are big-endian on the wire": header words from bytes, and back.
-use Prim.Native.Nat.{ℕ, _+_, _/_, _%_, _^_}
+use Prim.Native.Nat.{ℕ, _+_}
 use mathlib.Core.List.{List, [], _∷_}
 use lib.ListN.{getD}
 use Rattle.header.specs.Pick.{pick}

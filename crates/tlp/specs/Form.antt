@@ -1,9 +1,9 @@
 -- Reading a packet: the packet, or the first rule that it breaks, in the paper's order.
-use Prim.Native.Nat.{ℕ, _+_, _*_, _%_, _^_}
+use Prim.Native.Nat.{ℕ, _+_, _*_, _%_}
 use mathlib.Core.List.{List}
 use mathlib.Core.Bool.{Bool, not, _&&_, _||_}
 use lib.ListN.{length}
-use lib.Dec.{eqb, ltb, leb}
+use lib.Dec.{eqb, ltb}
 use Rattle.header.specs.Pick.{pick}
 use Rattle.header.specs.Kind.{isRead, isCompletion, isCarried, hasFourWords}
 use Rattle.header.specs.Words.{headerOf}

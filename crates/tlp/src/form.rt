@@ -1,22 +1,6 @@
 // Reading a packet: the packet, or the first rule that it breaks, in the paper's order.
 ghost use mathlib.Core.Path.{_≡_};
-ghost use lib.ListN.{length};
-ghost use Rattle.tlp.specs.Form.{
-  tooShort,
-  notCarried,
-  wrongLength,
-  enablesBroken,
-  reachesUp,
-  reachesDown,
-  gapsAllowed,
-  contiguityBroken,
-  crossesPage,
-  zeroHighWord,
-  requestForm,
-  formOf,
-  packetOf,
-  ruleNumber,
-};
+ghost use Rattle.tlp.specs.Form.{notCarried, wrongLength, enablesBroken, reachesUp, reachesDown, gapsAllowed, contiguityBroken, crossesPage, zeroHighWord, requestForm, formOf, packetOf, ruleNumber};
 use header::words::Header;
 
 // The rules of form, in the order in which they are looked at.

@@ -2,7 +2,7 @@
 -- below or above is as it was, and the word keeps its width.
 -- A word is three digits, its high part, the field and its low part; each law takes the digits apart. Assumes nothing.
 use Prim.Native.Nat.{ℕ, _+_, _-_, _*_, _/_, _%_, _^_, _≤_, _<_}
-use mathlib.Core.Path.{_≡_, refl, sym, ap, _∙_}
+use mathlib.Core.Path.{_≡_, sym, ap, _∙_}
 use native.Mathlib.Omega.{arith}
 use native.Mathlib.Nat.{mul-assoc, add-mul, mod-lt, mod-eq-of-lt}
 use lib.Pow as Pow

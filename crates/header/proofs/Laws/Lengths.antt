@@ -1,6 +1,6 @@
 -- How long the parts of a packet can be: a header of 12 or 16 bytes, data of none or 4 to 4,096, at most 4,112 in all.
 -- Each choice of the definitions is bounded in both its cases. Assumes nothing.
-use Prim.Native.Nat.{ℕ, _+_, _*_, _≤_, _<_}
+use Prim.Native.Nat.{ℕ, _≤_}
 use mathlib.Core.Path.{_≡_, refl, sym}
 use mathlib.Core.Bool.{true}
 use mathlib.Core.Logic.{_⊎_, inl, inr}

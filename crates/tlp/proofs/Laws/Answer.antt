@@ -2,7 +2,7 @@
 -- Its words are sums of fields at their places, each below its bound. Assumes nothing.
 use Prim.Native.Nat.{ℕ, _+_, _*_, _%_, _<_, _^_}
 use mathlib.Core.Path.{_≡_, refl, ap, _∙_}
-use mathlib.Core.Bool.{Bool, true, false, not, _||_}
+use mathlib.Core.Bool.{false, not, _||_}
 use native.Mathlib.Omega.{arith}
 use native.Mathlib.Nat.{mod-lt}
 use lib.Dec.{eqb}
@@ -10,9 +10,9 @@ use lib.Pow.{pow-pos}
 use Rattle.header.specs.Pick.{pick}
 use Rattle.header.specs.Field.{field, place}
 use Rattle.header.specs.Kind.{completion, isCarried, isCompletion, hasData, headerBytes}
-use Rattle.header.specs.Fields.{kind, trafficClass, hasDigest, attributes, addressType, dwords, totalBytes, requesterId, tag, firstEnables, address, completerId, status, byteCountModified, byteCountField, completionRequesterId, completionTag, lowerAddressField}
-use Rattle.tlp.specs.Count.{lowest, byteCount, lowerAddress, unsupportedRequest, answerWord0, answerWord1, answerWord2, answerTo}
-use Rattle.tlp.specs.Form.{notCarried, formOf}
+use Rattle.header.specs.Fields.{kind, trafficClass, hasDigest, attributes, addressType, dwords, requesterId, tag, firstEnables, address, completerId, status, byteCountModified, byteCountField, completionRequesterId, completionTag, lowerAddressField}
+use Rattle.tlp.specs.Count.{byteCount, lowerAddress, unsupportedRequest, answerWord0, answerWord1, answerWord2, answerTo}
+use Rattle.tlp.specs.Form.{formOf}
 use Rattle.header.specs.declared.words.Header.{Header}
 use Rattle.tlp.specs.declared.form.Packet.the-variants.{Completion}
 use Rattle.header.proofs.Laws.Field.{field-lt}

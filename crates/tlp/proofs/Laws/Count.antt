@@ -1,6 +1,6 @@
 -- A byte count is 1 to 4,096, for every Length and all enables. The places of the lowest and the highest enabled byte are
 -- compared by the four bits they are picked by. Assumes nothing.
-use Prim.Native.Nat.{ℕ, _+_, _-_, _*_, _≤_}
+use Prim.Native.Nat.{ℕ, _≤_}
 use mathlib.Core.Path.{_≡_}
 use mathlib.Core.Bool.{Bool, true, false}
 use native.Mathlib.Omega.{arith}

@@ -9,23 +9,21 @@ use mathlib.Core.Logic.{_⊎_, inl, inr, ⊎-elim}
 use mathlib.Core.List.{List}
 use native.Mathlib.Omega.{arith}
 use borrow.Author.Tests.{eq-eqb, ne-eqb, eqb-true, le-ltb, not-false}
-use lib.Dec.{eqb, ltb, leb}
+use lib.Dec.{eqb, ltb}
 use lib.ListN.{length, drop, length-drop}
 use Rattle.header.specs.Pick.{pick}
 use Rattle.header.specs.Field.{field, place, withField}
 use Rattle.header.specs.Kind.{isRead, isWrite, isCompletion, isCarried, hasData, hasFourWords, headerBytes}
 use Rattle.header.specs.Words.{headerOf}
-use Rattle.header.specs.Fields.{kind, hasDigest, addressType, lengthField, dwords, dataBytes, totalBytes, lastEnables, firstEnables, highWord, lowWord, address}
+use Rattle.header.specs.Fields.{kind, hasDigest, addressType, dwords, dataBytes, totalBytes, lastEnables, firstEnables, highWord, lowWord, address}
 use Rattle.tlp.specs.Form.{tooShort, notCarried, wrongLength, enablesBroken, reachesUp, reachesDown, gapsAllowed, contiguityBroken, crossesPage, zeroHighWord, requestOf, requestForm, formOf, packetOf}
 use Rattle.header.specs.Rewrite.{in64, in32, readdressed, renamed, returned}
 use Rattle.tlp.specs.Write.{packetList}
 use Rattle.header.specs.declared.words.Header.{Header}
 use Rattle.tlp.specs.declared.form.Packet.{Packet}
 use Rattle.tlp.specs.declared.form.Packet.the-variants.{Read, Write, Completion, Broken}
-use Rattle.tlp.specs.declared.form.Rule.{Rule}
-use Rattle.tlp.specs.declared.form.Rule.the-variants.{TooShort, NotCarried, WrongLength, Enables, Contiguity, PageCrossing, ZeroHighWord}
 use Rattle.header.proofs.Laws.Pick.{hit, pass, either}
-use Rattle.header.proofs.Laws.Words.{Bytes, Proper, read-proper}
+use Rattle.header.proofs.Laws.Words.{Bytes, read-proper}
 use Rattle.header.proofs.Laws.Lengths.{header-bounds}
 use Rattle.header.proofs.Laws.Rewrite
 use Rattle.tlp.proofs.Laws.Write.{length-packet, read-back}

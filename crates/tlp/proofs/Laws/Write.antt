@@ -1,7 +1,7 @@
 -- The laws of `over`: what it writes and leaves, that two writes side by side are one, and that stores byte by byte are it;
 -- and of packets as lists of bytes: how long they are, and that the words read from them are those written.
 -- A buffer is what lies before, what is written, and what lies beyond; each law takes these parts apart. Assumes nothing.
-use Prim.Native.Nat.{ℕ, _+_, _-_, _≤_, _<_}
+use Prim.Native.Nat.{ℕ, _+_, _≤_, _<_}
 use mathlib.Core.Path.{_≡_, refl, sym, ap, _∙_}
 use mathlib.Core.Bool.{Bool, true, false}
 use mathlib.Core.List.{List, [], _∷_, _++_, append-assoc}
@@ -12,7 +12,6 @@ use borrow.Author.Tests.{leb-true, le-leb, lt-leb}
 use lib.Dec.{leb}
 use lib.ListN.{length, take, drop, set, length-append, length-take, length-drop}
 use lib.Seq.{take-at, drop-at, drop-append-add, drop-drop, length-take-le, take-length, sets-eq, paste}
-use Rattle.header.specs.Pick.{pick}
 use Rattle.header.specs.Kind.{hasFourWords, headerBytes}
 use Rattle.header.specs.Words.{wordAt, fourthWord, headerOf, wordBytes}
 use Rattle.header.specs.Fields.{kind}

@@ -2,7 +2,7 @@
 use borrow.Author.Needs.{needs}
 use lib.Pow.{shl-exact}
 use Prim.Native.Nat.{_*_, _^_, _%_}
-use mathlib.Core.Path.{_≡_, _∙_}
+use mathlib.Core.Path.{_≡_}
 use native.Mathlib.Omega.{arith}
 use Rattle.header.proofs.Laws.Field.{parts, field-lt, stays-lt}
 use Rattle.header.specs.Field.{field, place}

@@ -2,7 +2,6 @@
 use borrow.Author.Needs.{needs}
 use native.Mathlib.Omega.{arith}
 use Rattle.tlp.proofs.Laws.Count.{places}
-use Rattle.header.specs.Fields.{firstEnables}
 use Rattle.tlp.proofs.count.lower_address.Statement.{statement}
 use Rattle.tlp.proofs.count.lower_address.Tie as tie
 

@@ -3,7 +3,7 @@ use borrow.Author.Needs.{needs}
 use native.Mathlib.Omega.{arith}
 use lib.ListN.{length-set}
 use mathlib.Core.Path.{_≡_}
-use Prim.Native.Nat.{_/_, _%_}
+use Prim.Native.Nat.{_%_}
 use denote.Ref.{now}
 use Rattle.tlp.proofs.Laws.Write.{four-stores}
 use Rattle.header.specs.Field.{field}
