@@ -3,8 +3,6 @@
 set -u
 cd "$(dirname "$0")/.." || exit 2
 . tests/lib.sh
-work=$(mktemp -d) || exit 2
-trap 'rm -rf "$work"' EXIT
 
 # siphon WORDS..: what it printed is in $work/out and $work/err, and its status in $status
 siphon() {
@@ -27,36 +25,27 @@ siphon test now
 expect 'a word too many is refused' [ "$status" -eq 2 ]
 expect 'and named too' has err 'got: now'
 
-# A repository of its own, with a stand-in for rt that prints what the case says, and one test.
-gate() { # WHAT-RT-CI-PRINTS ITS-STATUS WHAT-THE-TEST-PRINTS ITS-STATUS FMT-STATUS
+# A repository of its own, with a stand-in for rt and one test. Each case: what the gate must be and its last line; what
+# rt ci prints and its status; what the test prints and its status; the status of the layout check.
+gate() { # green|red LAST RT-PRINTS RT-STATUS TEST-PRINTS TEST-STATUS LAYOUT-STATUS
     rm -rf "$work/repo"
     mkdir -p "$work/repo/tests" "$work/repo/bin"
     cp siphon "$work/repo/"
-    printf '#!/bin/sh\ncase $1 in fmt) exit %s ;; esac\nprintf "%%s\\n" "working" "%s"\nexit %s\n' "$5" "$1" "$2" >"$work/repo/bin/rt"
-    printf 'echo "%s"\nexit %s\n' "$3" "$4" >"$work/repo/tests/one.sh"
+    printf '#!/bin/sh\n[ "$1" != fmt ] || exit %s\nprintf "%%s\\n" working "%s"\nexit %s\n' "$7" "$3" "$4" >"$work/repo/bin/rt"
+    printf 'echo "%s"\nexit %s\n' "$5" "$6" >"$work/repo/tests/one.sh"
     chmod +x "$work/repo/bin/rt"
     (PATH=$work/repo/bin:$PATH && export PATH && cd "$work/repo" && ./siphon test >"$work/out" 2>&1)
-    status=$?
-    last=$(tail -n 1 "$work/out")
+    if [ $? -eq 0 ]; then is=green; else is=red; fi
+    expect "rt ci '$3' ($4), test '$5' ($6), layout ($7): the gate is $is, and must be $1" [ "$is" = "$1" ]
+    expect "the same: the last line is '$(tail -n 1 "$work/out")', and must be '$2'" [ "$(tail -n 1 "$work/out")" = "$2" ]
 }
 
-gate '7 passed, 0 failed' 0 '3 passed, 0 failed' 0 0
-expect 'a green gate is green' [ "$status" -eq 0 ]
-expect 'and adds up' [ "$last" = '11 passed, 0 failed' ]
-gate '6 passed, 1 failed' 1 '3 passed, 0 failed' 0 0
-expect 'a failed proof is red' [ "$status" -ne 0 ]
-expect 'and is counted' [ "$last" = '10 passed, 1 failed' ]
-gate '7 passed, 0 failed' 0 '2 passed, 1 failed' 1 0
-expect 'a failed test is red' [ "$status" -ne 0 ]
-expect 'and is counted too' [ "$last" = '10 passed, 1 failed' ]
-gate '7 passed, 0 failed' 0 '3 passed, 0 failed' 0 1
-expect 'a wrong layout is red' [ "$status" -ne 0 ]
-expect 'and is counted as one' [ "$last" = '10 passed, 1 failed' ]
-gate '7 passed, 0 failed' 2 '3 passed, 0 failed' 0 0
-expect 'a bad status is red whatever is printed' [ "$status" -ne 0 ]
-gate 'no verdict' 3 '3 passed, 0 failed' 0 0
-expect 'no verdict is red' [ "$status" -ne 0 ]
-expect 'and the last line says so' [ "$last" = '4 passed, 1 failed' ]
-gate '7 passed, 0 failed' 0 'nothing' 0 0
-expect 'a test that counts nothing is red' [ "$status" -ne 0 ]
+gate green '11 passed, 0 failed' '7 passed, 0 failed' 0 '3 passed, 0 failed' 0 0
+gate red '10 passed, 1 failed' '6 passed, 1 failed' 1 '3 passed, 0 failed' 0 0
+gate red '10 passed, 1 failed' '7 passed, 0 failed' 0 '2 passed, 1 failed' 1 0
+gate red '10 passed, 1 failed' '7 passed, 0 failed' 0 '3 passed, 0 failed' 0 1
+gate red '11 passed, 1 failed' '7 passed, 0 failed' 2 '3 passed, 0 failed' 0 0
+gate red '4 passed, 1 failed' 'no verdict' 3 '3 passed, 0 failed' 0 0
+gate red '8 passed, 1 failed' '7 passed, 0 failed' 0 'nothing' 0 0
+gate red '8 passed, 1 failed' '7 passed, 0 failed' 0 '0 passed, 0 failed' 0 0
 finish

@@ -6,8 +6,6 @@ set -u
 cd "$(dirname "$0")/.." || exit 2
 . tests/lib.sh
 promises=docs/PROMISES.md
-work=$(mktemp -d) || exit 2
-trap 'rm -rf "$work"' EXIT
 
 awk 'BEGIN { RS = "`" } NR % 2 == 0 && /^[a-z_]+\/(specs|proofs|src)\/[^:]+:[^ ]+$/ { print }' "$promises" | sort -u >"$work/cited"
 
@@ -32,7 +30,7 @@ while IFS= read -r place; do
     esac
     expect "$promises cites $place, which is not there" declared "$file" "$name"
 done <"$work/cited"
-expect "$promises cites at least a hundred places" [ "$(wc -l <"$work/cited")" -ge 100 ]
+expect "$promises cites fewer than a hundred places" [ "$(wc -l <"$work/cited")" -ge 100 ]
 
 # every public function of a library, but for what only its own crate can call
 for lib in crates/*/src/lib.rt; do

@@ -1,30 +1,43 @@
 #!/bin/sh
-# The script that runs a built program on either kind of machine, on a proved program; and its refusals.
+# The script that runs a built program on either kind of machine, on the program that the gate has just built; the words
+# that it hands to the emulator on Arm; and its refusals.
 set -u
 cd "$(dirname "$0")/.." || exit 2
 . tests/lib.sh
-work=$(mktemp -d) || exit 2
-trap 'rm -rf "$work"' EXIT
 
+# run MACHINE WORDS..: as on that machine, by a stand-in for uname; on this one where MACHINE is `here`
 run() {
-    tools/x86-64 "$@" >"$work/out" 2>"$work/err"
+    machine=$1
+    shift
+    mkdir -p "$work/bin"
+    rm -f "$work/bin/uname"
+    if [ "$machine" != here ]; then
+        printf '#!/bin/sh\necho %s\n' "$machine" >"$work/bin/uname"
+        chmod +x "$work/bin/uname"
+    fi
+    (PATH=$work/bin:$PATH && export PATH && tools/x86-64 "$@") >"$work/out" 2>"$work/err"
     status=$?
 }
 
-run target/bin/counts
+run here target/bin/counts
 expect 'a program runs' [ "$status" -eq 0 ]
 expect 'and writes what it must' cmp -s "$work/out" crates/counts/stdout
-run
+run here
 expect 'no program is refused' [ "$status" -eq 2 ]
-run target/bin/nothing
+run here target/bin/nothing
 expect 'a program that is not there is refused' [ "$status" -eq 2 ]
 expect 'and named' grep -q 'no program target/bin/nothing' "$work/err"
-
-# another machine, by a stand-in for uname
-mkdir "$work/bin"
-printf '#!/bin/sh\necho abacus\n' >"$work/bin/uname"
-chmod +x "$work/bin/uname"
-(PATH=$work/bin:$PATH && export PATH && tools/x86-64 target/bin/counts) >"$work/out" 2>"$work/err"
-expect 'an unknown machine is refused' [ "$?" -eq 2 ]
+run abacus target/bin/counts
+expect 'an unknown machine is refused' [ "$status" -eq 2 ]
 expect 'and named too' grep -q abacus "$work/err"
+
+# Arm, by stand-ins for the toolchain: the emulator is handed the loader, its libraries, the program and its words
+kit=$work/kit
+mkdir -p "$kit/docs" "$kit/on/aarch64/toolchain/bin"
+printf '#!/bin/sh\necho %s/docs/guide.md\n' "$kit" >"$work/bin/rt"
+printf '#!/bin/sh\necho "$*"\n' >"$kit/on/aarch64/toolchain/bin/qemu-x86_64"
+chmod +x "$work/bin/rt" "$kit/on/aarch64/toolchain/bin/qemu-x86_64"
+lib=$kit/on/aarch64/toolchain/lib
+run aarch64 target/bin/counts one two
+expect 'on Arm the emulator is called' [ "$(cat "$work/out")" = "$lib/ld-linux-x86-64.so.2 --library-path $lib target/bin/counts one two" ]
 finish

@@ -1,4 +1,5 @@
 // What reading a packet finds, a line each: the kinds that are carried and those that are not, and every rule of form.
+use header::kind::Kind;
 use header::words::Header;
 use libc::STDOUT_FILENO;
 use tlp::form::Packet;
@@ -78,16 +79,6 @@ fn kind(name: &[u8], byte: u8) {
     );
 }
 
-// The refusal number of what was read; 0 where there is none.
-fn number(packet: Packet) -> u8 {
-    match packet {
-        Packet::Read(_) => 0,
-        Packet::Write(_) => 0,
-        Packet::Completion(_) => 0,
-        Packet::Broken(rule) => rule.number(),
-    }
-}
-
 // Whether a kind is carried: `4` where it is not, and `.` where another rule, or none, is met first.
 fn mark(byte: u32) {
     let h = Header {
@@ -96,7 +87,7 @@ fn mark(byte: u32) {
         w2: 0,
         w3: 0,
     };
-    if number(tlp::form::form(12, h)) == 4 {
+    if tlp::form::form(12, h).refusal() == 4 {
         io::write_all(STDOUT_FILENO, b" 4");
     } else {
         io::write_all(STDOUT_FILENO, b" .");
@@ -120,22 +111,41 @@ fn all_kinds() {
     }
 }
 
-// "The six kinds", in packets that break no rule.
+// Word 0 of a kind, with Length 1.
+fn word_0(kind: u8) -> u32 {
+    (kind as u32) * 0x0100_0000 + 1
+}
+
+// "The six kinds", by their names, in packets that break no rule.
 fn carried() {
-    show(b"00 read", 12, 0x0000_0001, 0x0300_050F, 0x9000_0010, 0);
+    show(
+        b"00 read",
+        12,
+        word_0(Kind::READ_32),
+        0x0300_050F,
+        0x9000_0010,
+        0,
+    );
     show(
         b"20 read",
         16,
-        0x2000_0001,
+        word_0(Kind::READ_64),
         0x0300_050F,
         0x0000_0001,
         0x4000_0010,
     );
-    show(b"40 write", 16, 0x4000_0001, 0x0300_050F, 0x9000_0010, 0);
+    show(
+        b"40 write",
+        16,
+        word_0(Kind::WRITE_32),
+        0x0300_050F,
+        0x9000_0010,
+        0,
+    );
     show(
         b"60 write",
         20,
-        0x6000_0001,
+        word_0(Kind::WRITE_64),
         0x0300_050F,
         0x0000_0001,
         0x4000_0010,
@@ -143,7 +153,7 @@ fn carried() {
     show(
         b"0a completion",
         12,
-        0x0A00_0000,
+        word_0(Kind::COMPLETION),
         0x0100_0004,
         0x0300_0510,
         0,
@@ -151,7 +161,7 @@ fn carried() {
     show(
         b"4a completion with data",
         16,
-        0x4A00_0001,
+        word_0(Kind::COMPLETION_WITH_DATA),
         0x0100_0004,
         0x0300_0510,
         0,

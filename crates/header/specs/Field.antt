@@ -9,6 +9,6 @@ field low width w = w / 2 ^ low % 2 ^ width
 abbrev pub place : ℕ → ℕ → ℕ
 place low x = x * 2 ^ low
 
--- the word with that field made x, and every other bit as it was
+-- the word with that field made x, which is below 2 ^ width, and every other bit as it was
 abbrev pub withField : ℕ → ℕ → ℕ → ℕ → ℕ
 withField low width w x = w / 2 ^ (width + low) * 2 ^ (width + low) + place low x + w % 2 ^ low

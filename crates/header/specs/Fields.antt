@@ -1,5 +1,5 @@
 -- "Headers used": every field of a header by its name.
-use Prim.Native.Nat.{ℕ, _+_, _*_}
+use Prim.Native.Nat.{ℕ, _+_, _*_, _^_}
 use mathlib.Core.Bool.{Bool}
 use lib.Dec.{eqb}
 use Rattle.header.specs.Pick.{pick}
@@ -37,9 +37,9 @@ lengthField h = field 0 10 (h .w0)
 
 -- "Length .. in dwords, 0 meaning 1,024"
 abbrev pub dwords : Header → ℕ
-dwords h = pick (eqb (lengthField h) 0) 1024 (lengthField h)
+dwords h = pick (eqb (lengthField h) 0) (2 ^ 10) (lengthField h)
 
--- "4 × Length bytes" of data, or none; of a kind without data the Length is not read
+-- "4 × Length bytes" of data, or none: of a kind without data the Length is not read
 abbrev pub dataBytes : Header → ℕ
 dataBytes h = pick (hasData (kind h)) (4 * dwords h) 0
 
@@ -63,10 +63,11 @@ lastEnables h = field 4 4 (h .w1)
 abbrev pub firstEnables : Header → ℕ
 firstEnables h = field 0 4 (h .w1)
 
--- "then the address, high word first where there are two"
+-- the address: "high word first where there are two"
 abbrev pub highWord : Header → ℕ
 highWord h = pick (hasFourWords (kind h)) (h .w2) 0
 
+-- the address: its low word, the only one of a 32-bit address
 abbrev pub lowWord : Header → ℕ
 lowWord h = pick (hasFourWords (kind h)) (h .w3) (h .w2)
 

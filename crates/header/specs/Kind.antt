@@ -5,24 +5,27 @@ use lib.Dec.{eqb}
 use Rattle.header.specs.Pick.{pick}
 use Rattle.header.specs.Field.{field}
 
--- "0x00 and 0x20 read"
+-- "0x00 .. read", with a 32-bit address
 abbrev pub read32 : ℕ
 read32 = 0x00
 
+-- "0x20 read", with a 64-bit address
 abbrev pub read64 : ℕ
 read64 = 0x20
 
--- "0x40 and 0x60 write"
+-- "0x40 .. write", with a 32-bit address
 abbrev pub write32 : ℕ
 write32 = 0x40
 
+-- "0x60 write", with a 64-bit address
 abbrev pub write64 : ℕ
 write64 = 0x60
 
--- "0x0A completion, 0x4A completion with data"
+-- "0x0A completion"
 abbrev pub completion : ℕ
 completion = 0x0A
 
+-- "0x4A completion with data"
 abbrev pub completionWithData : ℕ
 completionWithData = 0x4A
 
@@ -42,14 +45,14 @@ isCompletion k = eqb k completion || eqb k completionWithData
 abbrev pub isCarried : ℕ → Bool
 isCarried k = isRead k || isWrite k || isCompletion k
 
--- "4 × Length bytes for kinds 0x40, 0x60, 0x4A, and no data for the others"
+-- data follows the header: "kinds 0x40, 0x60, 0x4A"
 abbrev pub hasData : ℕ → Bool
 hasData k = isWrite k || eqb k completionWithData
 
--- "byte 0 has bit 5": the header has a fourth word, as a 64-bit address asks
+-- the header has a fourth word: "byte 0 has bit 5"
 abbrev pub hasFourWords : ℕ → Bool
 hasFourWords k = eqb (field 5 1 k) 1
 
--- the header's length in bytes
+-- the header's length in bytes: four words, or three
 abbrev pub headerBytes : ℕ → ℕ
 headerBytes k = pick (hasFourWords k) 16 12

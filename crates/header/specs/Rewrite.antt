@@ -18,7 +18,7 @@ in64 h a = record { w0 = withField 29 1 (h .w0) 1; w1 = h .w1; w2 = field 32 32 
 abbrev pub in32 : Header → ℕ → Header
 in32 h a = record { w0 = withField 29 1 (h .w0) 0; w1 = h .w1; w2 = lowWordFor h a; w3 = 0 }
 
--- a request with the address a, "in a 64-bit header exactly if that is 2^32 or more (kind changed to fit)"
+-- a request with the address a, "in a 64-bit header exactly if that is 2^32 or more"
 unfoldable pub readdressed : Header → ℕ → Header
 readdressed h a = pick {A = Header} (leb (2 ^ 32) a) (in64 h a) (in32 h a)
 

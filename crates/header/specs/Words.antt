@@ -19,11 +19,11 @@ joined a b c d = place 24 a + place 16 b + place 8 c + d
 unfoldable pub wordAt : List ℕ → ℕ → ℕ
 wordAt s at = joined (byteAt s at) (byteAt s (at + 1)) (byteAt s (at + 2)) (byteAt s (at + 3))
 
--- "the fourth if byte 0 has bit 5 set, else 0"
+-- the fourth word: only "if byte 0 has bit 5 set, else 0"
 abbrev pub fourthWord : List ℕ → ℕ
 fourthWord s = pick (hasFourWords (byteAt s 0)) (wordAt s 12) 0
 
--- the header words: "the first three words of the packet", and the fourth
+-- the header words: the first three words of the packet, and the fourth
 abbrev pub headerOf : List ℕ → Header
 headerOf s = record { w0 = wordAt s 0; w1 = wordAt s 4; w2 = wordAt s 8; w3 = fourthWord s }
 

@@ -1,5 +1,6 @@
 // "Words are big-endian on the wire": the header words, read once from the bytes.
 ghost use mathlib.Core.Path.{_≡_};
+ghost use lib.ListN.{drop};
 ghost use Rattle.header.specs.Words.{byteAt, joined, wordAt, fourthWord, headerOf};
 use crate::kind::Kind;
 
@@ -16,6 +17,17 @@ pub fn byte(packet: &[u8], i: usize) -> u8
     ensures { λ r. ⌜ r ≡ byteAt (now (packet .entry)) i ⌝ }
 {
     if i < packet.len() { packet[i] } else { 0 }
+}
+
+// The part of a packet after its first `n` bytes; nothing where it has no more.
+pub fn after(packet: &[u8], n: usize) -> &[u8]
+    ensures { λ r. ⌜ now r ≡ drop n (now (packet .entry)) ⌝ }
+{
+    if n <= packet.len() {
+        &packet[n..]
+    } else {
+        &packet[..0]
+    }
 }
 
 // Four bytes as a word, the first the highest.

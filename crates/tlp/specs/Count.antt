@@ -20,7 +20,7 @@ lowest e = pick (enabled 0 e) 0 (pick (enabled 1 e) 1 (pick (enabled 2 e) 2 (pic
 abbrev pub highest : ℕ → ℕ
 highest e = pick (enabled 3 e) 3 (pick (enabled 2 e) 2 (pick (enabled 1 e) 1 0))
 
--- "Length above 1: 4 × Length, less the clear bits below the lowest .. of the first dword, less the clear bits above the highest .. of the last. Length 1: highest enabled place less lowest, plus 1"
+-- "Byte count": at Length 1 from the lowest place to the highest; above 1 all bytes, less what either end leaves out
 unfoldable pub byteCountOf : ℕ → ℕ → ℕ → ℕ
 byteCountOf n first last =
     pick (eqb n 1)
@@ -39,18 +39,18 @@ lowerAddress h = place 2 (field 2 5 (address h)) + lowest (firstEnables h)
 abbrev pub unsupportedRequest : ℕ
 unsupportedRequest = 1
 
--- "an answered read gets a completion": "word 0 is 0x0A000000 with the read's TC and Attr 13:12"
+-- an answered read's word 0: the kind, "the read's TC and Attr 13:12"
 abbrev pub answerWord0 : Header → ℕ
 answerWord0 h = place 24 completion + place 20 (trafficClass h) + place 12 (attributes h)
 
--- "completer .., status 1, BCM 0, byte count", in which 4,096 "is written 0"
+-- its word 1: completer, "status 1, BCM 0, byte count", and "4,096 is written 0"
 abbrev pub answerWord1 : Header → ℕ → ℕ
 answerWord1 h completer = place 16 completer + place 13 unsupportedRequest + byteCount h % 2 ^ 12
 
--- "its requester ID, tag, lower address"
+-- its word 2: the read's "requester ID, tag, lower address"
 abbrev pub answerWord2 : Header → ℕ
 answerWord2 h = place 16 (requesterId h) + place 8 (tag h) + lowerAddress h
 
--- the whole answer, three words
+-- the answer, three words
 abbrev pub answerTo : Header → ℕ → Header
 answerTo h completer = record { w0 = answerWord0 h; w1 = answerWord1 h completer; w2 = answerWord2 h; w3 = 0 }

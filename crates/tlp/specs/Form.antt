@@ -1,5 +1,5 @@
 -- Reading a packet: the packet, or the first rule that it breaks, in the paper's order.
-use Prim.Native.Nat.{ℕ, _+_, _*_, _%_}
+use Prim.Native.Nat.{ℕ, _+_, _*_, _%_, _^_}
 use mathlib.Core.List.{List}
 use mathlib.Core.Bool.{Bool, not, _&&_, _||_}
 use lib.ListN.{length}
@@ -26,34 +26,38 @@ notCarried h = not (isCarried (kind h)) || hasDigest h || not (eqb (addressType 
 abbrev pub wrongLength : ℕ → Header → Bool
 wrongLength n h = not (eqb n (totalBytes h))
 
--- "Length 1: last enables 0 and first enables not 0. Length above 1: neither is 0."
+-- enables: at "Length 1", last 0 and first not 0; at "Length above 1", neither 0
 abbrev pub enablesBroken : Header → Bool
 enablesBroken h =
     pick (eqb (dwords h) 1)
     (not (eqb (lastEnables h) 0) || eqb (firstEnables h) 0)
     (eqb (firstEnables h) 0 || eqb (lastEnables h) 0)
 
--- "the first must be one of 1111, 1110, 1100, 1000": no gap up to the next dword
+-- the first enables have no gap up to the next dword: "1111, 1110, 1100, 1000"
 abbrev pub reachesUp : ℕ → Bool
 reachesUp e = eqb e 0b1111 || eqb e 0b1110 || eqb e 0b1100 || eqb e 0b1000
 
--- "the last one of 0001, 0011, 0111, 1111": no gap from the dword before
+-- the last enables have no gap from the dword before: "0001, 0011, 0111, 1111"
 abbrev pub reachesDown : ℕ → Bool
 reachesDown e = eqb e 0b0001 || eqb e 0b0011 || eqb e 0b0111 || eqb e 0b1111
 
--- "Length above 1 .. except at Length 2 with address a multiple of 8": gaps are allowed
+-- gaps are allowed at Length 1, and "at Length 2 with address a multiple of 8"
 abbrev pub gapsAllowed : Header → Bool
-gapsAllowed h = eqb (dwords h) 1 || (eqb (dwords h) 2 && eqb (address h % 8) 0)
+gapsAllowed h = eqb (dwords h) 1 || (eqb (dwords h) 2 && eqb (address h % 2 ^ 3) 0)
 
--- the first or the last dword has a gap where none is allowed
+-- contiguity: a gap in the first or the last dword where none is allowed
 abbrev pub contiguityBroken : Header → Bool
 contiguityBroken h = not (gapsAllowed h) && not (reachesUp (firstEnables h) && reachesDown (lastEnables h))
 
--- "(address mod 4096) + 4 × Length ≤ 4096" does not hold
-abbrev pub crossesPage : Header → Bool
-crossesPage h = ltb 4096 (address h % 4096 + 4 * dwords h)
+-- a page, 4 KiB
+abbrev pub page : ℕ
+page = 2 ^ 12
 
--- "a 64-bit header has a high word other than 0" does not hold
+-- 4 KiB crossing: "(address mod 4096) + 4 × Length" is above 4,096
+abbrev pub crossesPage : Header → Bool
+crossesPage h = ltb page (address h % page + 4 * dwords h)
+
+-- zero high word: "a 64-bit header" whose high word is 0
 abbrev pub zeroHighWord : Header → Bool
 zeroHighWord h = hasFourWords (kind h) && eqb (highWord h) 0
 

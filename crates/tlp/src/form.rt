@@ -1,6 +1,21 @@
 // Reading a packet: the packet, or the first rule that it breaks, in the paper's order.
 ghost use mathlib.Core.Path.{_≡_};
-ghost use Rattle.tlp.specs.Form.{notCarried, wrongLength, enablesBroken, reachesUp, reachesDown, gapsAllowed, contiguityBroken, crossesPage, zeroHighWord, requestForm, formOf, packetOf, ruleNumber};
+ghost use Rattle.tlp.specs.Form.{
+  notCarried,
+  wrongLength,
+  enablesBroken,
+  reachesUp,
+  reachesDown,
+  gapsAllowed,
+  contiguityBroken,
+  crossesPage,
+  zeroHighWord,
+  requestForm,
+  formOf,
+  packetOf,
+  ruleNumber,
+  packetNumber,
+};
 use header::words::Header;
 
 // The rules of form, in the order in which they are looked at.
@@ -53,7 +68,7 @@ fn wrong_length(n: usize, h: Header) -> bool
     n != h.total_bytes()
 }
 
-// "Length 1: last enables 0 and first enables not 0. Length above 1: neither is 0."
+// Enables: at Length 1 last 0 and first not 0, above 1 neither 0.
 fn enables_broken(h: Header) -> bool
     ensures { λ r. ⌜ r ≡ enablesBroken h ⌝ }
 {
@@ -95,7 +110,7 @@ fn contiguity_broken(h: Header) -> bool
     !gaps_allowed(h) & !(reaches_up(h.first_enables()) & reaches_down(h.last_enables()))
 }
 
-// "(address mod 4096) + 4 × Length ≤ 4096" does not hold.
+// The request runs past its 4 KiB page.
 fn crosses_page(h: Header) -> bool
     ensures { λ r. ⌜ r ≡ crossesPage h ⌝ }
 {
@@ -153,6 +168,18 @@ pub fn form(n: usize, h: Header) -> Packet
 }
 
 impl Packet {
+    // The paper's refusal number; 0, which is none, of a packet that breaks no rule.
+    pub fn refusal(self) -> u8
+        ensures { λ r. ⌜ r ≡ packetNumber self ⌝ }
+    {
+        match self {
+            Packet::Read(_) => 0,
+            Packet::Write(_) => 0,
+            Packet::Completion(_) => 0,
+            Packet::Broken(rule) => rule.number(),
+        }
+    }
+
     // Reading a packet.
     pub fn read(packet: &[u8]) -> Packet
         ensures { λ r. ⌜ r ≡ packetOf (now (packet .entry)) ⌝ }

@@ -1,23 +1,12 @@
-// Reading a part of a packet, and writing header and data over the start of a buffer.
+// Writing header and data over the start of a buffer.
 ghost use mathlib.Core.Path.{_≡_};
 ghost use Prim.Native.Nat.{_+_, _≤_};
-ghost use lib.ListN.{length, drop};
+ghost use lib.ListN.{length};
 ghost use Rattle.header.specs.Kind.{headerBytes};
 ghost use Rattle.header.specs.Fields.{kind};
 ghost use Rattle.header.specs.Words.{wordBytes};
 ghost use Rattle.tlp.specs.Write.{threeWords, headerList, packetList, over, writtenBytes};
 use header::words::Header;
-
-// The part of a packet after its first `n` bytes; nothing where it has no more.
-pub fn after(packet: &[u8], n: usize) -> &[u8]
-    ensures { λ r. ⌜ now r ≡ drop n (now (packet .entry)) ⌝ }
-{
-    if n <= packet.len() {
-        &packet[n..]
-    } else {
-        &packet[..0]
-    }
-}
 
 // A word's four bytes at `at`.
 fn put_word(out: &mut [u8], at: usize, w: u32)

@@ -2,6 +2,7 @@
 -- Its words are sums of fields at their places, each below its bound. Assumes nothing.
 use Prim.Native.Nat.{ℕ, _+_, _*_, _%_, _<_, _^_}
 use mathlib.Core.Path.{_≡_, refl, ap, _∙_}
+use mathlib.Core.List.{[]}
 use mathlib.Core.Bool.{false, not, _||_}
 use native.Mathlib.Omega.{arith}
 use native.Mathlib.Nat.{mod-lt}
@@ -12,13 +13,16 @@ use Rattle.header.specs.Field.{field, place}
 use Rattle.header.specs.Kind.{completion, isCarried, isCompletion, hasData, headerBytes}
 use Rattle.header.specs.Fields.{kind, trafficClass, hasDigest, attributes, addressType, dwords, requesterId, tag, firstEnables, address, completerId, status, byteCountModified, byteCountField, completionRequesterId, completionTag, lowerAddressField}
 use Rattle.tlp.specs.Count.{byteCount, lowerAddress, unsupportedRequest, answerWord0, answerWord1, answerWord2, answerTo}
-use Rattle.tlp.specs.Form.{formOf}
+use Rattle.tlp.specs.Form.{formOf, packetOf}
 use Rattle.header.specs.declared.words.Header.{Header}
+use Rattle.header.specs.Words.{headerOf}
+use Rattle.tlp.specs.Write.{packetList}
 use Rattle.tlp.specs.declared.form.Packet.the-variants.{Completion}
 use Rattle.header.proofs.Laws.Field.{field-lt}
 use Rattle.tlp.proofs.Laws.Count.{places}
 use Rattle.header.proofs.Laws.Words.{Proper}
 use Rattle.tlp.proofs.Laws.Form.{accepted-completion}
+use Rattle.tlp.proofs.Laws.Write.{length-packet, read-back}
 
 -- a lower address is of seven bits
 pub lower-address-lt : (h : Header) → lowerAddress h < 2 ^ 7
@@ -113,3 +117,11 @@ module _ (h : Header) (c : ℕ) (b : c < 2 ^ 16) where
         whole = ap (λ (m : ℕ). not (eqb 12 (headerBytes m + pick (hasData m) (4 * dwords (answerTo h c)) 0))) k;
         completion = ap isCompletion k;
       })
+
+  -- so are its bytes
+  pub answer-bytes : packetOf (packetList (answerTo h c) []) ≡ Completion (answerTo h c)
+  unfolding pick
+  answer-bytes =
+      ap (λ (m : ℕ). formOf m (headerOf (packetList (answerTo h c) []))) (length-packet (answerTo h c) [] ∙ ap (λ (m : ℕ). headerBytes m + 0) (zeroth .kind))
+      ∙ ap (formOf 12) (read-back (answerTo h c) [] answer-proper)
+      ∙ answer-form

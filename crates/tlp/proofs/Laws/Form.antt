@@ -1,6 +1,7 @@
 -- "What crosses is well-formed": a well-formed request that is moved by whole 4 KiB pages, in the header that fits, and
 -- renamed is well-formed again; so is a completion that is returned.
--- The rules read the Length, the enables, the low 12 bits of the address and the kind but for its bit 5; none of these moves.
+-- The rules read TD, AT, the Length, the enables, the low 12 bits of the address and the kind but for its bit 5, and none of
+-- these moves; and the high word, which is not 0 where the new header has one.
 -- Assumes nothing.
 use Prim.Native.Nat.{ℕ, _+_, _*_, _/_, _%_, _^_, _≤_, _<_}
 use mathlib.Core.Path.{_≡_, refl, sym, ap, _∙_, subst}
@@ -69,12 +70,10 @@ unfolding pick
 passed P true y x p r f e = absurd (f (subst P (sym e) r))
 passed P false y x p r f e = (refl, e)
 
--- and only such a packet is read as the request
-pub inverted : (n : ℕ) (h : Header) → formOf n h ≡ requestOf h → WellFormed n h
+-- a packet that is read as some request breaks no rule, and the request is its own
+read-as : (n : ℕ) (h : Header) (p : Packet) → IsRequest p → formOf n h ≡ p → WellFormed n h × (requestOf h ≡ p)
 unfolding formOf requestForm
-inverted n h e =
-    let r = is-request h in
-    let p = requestOf h in
+read-as n h p r e =
     let a = passed IsRequest (tooShort n) _ _ p r (λ x. x) e in
     let b = passed IsRequest (notCarried h) _ _ p r (λ x. x) (a .1) in
     let c = passed IsRequest (wrongLength n h) _ _ p r (λ x. x) (b .1) in
@@ -83,7 +82,35 @@ inverted n h e =
     let g = passed IsRequest (contiguityBroken h) _ _ p r (λ x. x) (f .1) in
     let i = passed IsRequest (crossesPage h) _ _ p r (λ x. x) (g .1) in
     let j = passed IsRequest (zeroHighWord h) _ _ p r (λ x. x) (i .1) in
-    record { long = a .0; carried = b .0; whole = c .0; request = d .0; enables = f .0; contiguous = g .0; paged = i .0; high = j .0 }
+    (record { long = a .0; carried = b .0; whole = c .0; request = d .0; enables = f .0; contiguous = g .0; paged = i .0; high = j .0 }, j .1)
+
+-- so only a well-formed request is read as itself,
+pub inverted : (n : ℕ) (h : Header) → formOf n h ≡ requestOf h → WellFormed n h
+inverted n h e = read-as n h (requestOf h) (is-request h) e .0
+
+-- what is read as a read is one, with its own words,
+pub inverted-read : (n : ℕ) (h g : Header) → formOf n h ≡ Read g → WellFormed n h × (isRead (kind h) ≡ true) × (g ≡ h)
+unfolding pick
+inverted-read n h g e =
+    let r = read-as n h (Read g) tt e in
+    let k = by-test (isRead (kind h)) (r .1) in
+    (r .0, k .0, k .1)
+  where
+    by-test : (t : Bool) → pick t (Read h) (Write h) ≡ Read g → (t ≡ true) × (g ≡ h)
+    by-test true q = (refl, (cc))
+    by-test false q = let z : _≡_ {A = ℕ} 0 1 = cc in absurd (omega arith)
+
+-- and what is read as a write is a request that is no read, with its own words
+pub inverted-write : (n : ℕ) (h g : Header) → formOf n h ≡ Write g → WellFormed n h × (isRead (kind h) ≡ false) × (g ≡ h)
+unfolding pick
+inverted-write n h g e =
+    let r = read-as n h (Write g) tt e in
+    let k = by-test (isRead (kind h)) (r .1) in
+    (r .0, k .0, k .1)
+  where
+    by-test : (t : Bool) → pick t (Read h) (Write h) ≡ Write g → (t ≡ false) × (g ≡ h)
+    by-test true q = let z : _≡_ {A = ℕ} 0 1 = cc in absurd (omega arith)
+    by-test false q = (refl, (cc))
 
 -- what a join of tests tells
 neither : (a b : Bool) → (a || b) ≡ false → (a ≡ false) × (b ≡ false)
@@ -175,6 +202,10 @@ module _ (n : ℕ) (h : Header) (a : ℕ) (f : WellFormed n h) (b : a < 2 ^ 64) 
       Rewrite.by-size h a b (λ (g : Header). SameKind (kind h) (kind g))
       (λ l e. rw (Rewrite.kind-with (h .w0) 1 (omega arith)) (with-bit-5 (kind h) 1 (inr refl) c (f .request)))
       (λ l e. rw (Rewrite.kind-with (h .w0) 0 (omega arith)) (with-bit-5 (kind h) 0 (inl refl) c (f .request)))
+
+  -- a read stays a read, and a write a write
+  pub moved-read : isRead (kind (readdressed h a)) ≡ isRead (kind h)
+  moved-read = moved-kind .read
 
   moved-dwords : dwords (readdressed h a) ≡ dwords h
   moved-dwords = ap (λ (k : ℕ). pick (eqb k 0) 1024 k) (Rewrite.readdressed-keeps-low h a b 0 10 (omega arith))
@@ -289,22 +320,24 @@ no-completion h =
     (λ _. either never (zeroHighWord h) (λ _ x. x)
     (λ _. either never (isRead (kind h)) (λ _ x. x) (λ _ x. x)))))
 
-pub inverted-completion : (n : ℕ) (h : Header) → formOf n h ≡ Completion h → WellFormedCompletion n h
+-- what is read as a completion is one, with its own words
+pub inverted-completion : (n : ℕ) (h g : Header) → formOf n h ≡ Completion g → WellFormedCompletion n h × (g ≡ h)
 unfolding formOf pick
-inverted-completion n h e =
-    let a = passed IsCompletion (tooShort n) _ _ (Completion h) tt (λ x. x) e in
-    let b = passed IsCompletion (notCarried h) _ _ (Completion h) tt (λ x. x) (a .1) in
-    let c = passed IsCompletion (wrongLength n h) _ _ (Completion h) tt (λ x. x) (b .1) in
-    record { long = a .0; carried = b .0; whole = c .0; completion = by-test (isCompletion (kind h)) (c .1) }
+inverted-completion n h g e =
+    let a = passed IsCompletion (tooShort n) _ _ (Completion g) tt (λ x. x) e in
+    let b = passed IsCompletion (notCarried h) _ _ (Completion g) tt (λ x. x) (a .1) in
+    let c = passed IsCompletion (wrongLength n h) _ _ (Completion g) tt (λ x. x) (b .1) in
+    let k = by-test (isCompletion (kind h)) (c .1) in
+    (record { long = a .0; carried = b .0; whole = c .0; completion = k .0 }, k .1)
   where
-    by-test : (t : Bool) → pick t (Completion h) (requestForm h) ≡ Completion h → t ≡ true
-    by-test true e = refl
-    by-test false e = absurd (no-completion h (subst IsCompletion (sym e) tt))
+    by-test : (t : Bool) → pick t (Completion h) (requestForm h) ≡ Completion g → (t ≡ true) × (g ≡ h)
+    by-test true q = (refl, (cc))
+    by-test false q = absurd (no-completion h (subst IsCompletion (sym q) tt))
 
 -- a completion's form is all in word 0, which no returning touches
 pub returned-form : (n : ℕ) (h : Header) (id completer : ℕ) → formOf n h ≡ Completion h → formOf n (returned h id completer) ≡ Completion (returned h id completer)
 returned-form n h id completer e =
-    let f = inverted-completion n h e in
+    let f = inverted-completion n h h e .0 in
     accepted-completion n (returned h id completer) (record { long = f .long; carried = f .carried; whole = f .whole; completion = f .completion })
 
 -- "What crosses is well-formed", in bytes: the request read from s, moved by whole pages, renamed and written with its data
@@ -323,3 +356,17 @@ crosses-well-formed s a id bytes e b pages c =
     ap (λ (m : ℕ). formOf m (headerOf (packetList k p))) whole
     ∙ ap (formOf (totalBytes g)) (read-back k p (Rewrite.renamed-proper g id c (Rewrite.readdressed-proper h a b (read-proper s bytes))))
     ∙ accepted (totalBytes g) k (renamed-form (totalBytes g) g id c (moved (length s) h a f b pages))
+
+-- the same of completions: the one read from s, returned and written with its data
+pub returns-well-formed : (s : List ℕ) (id completer : ℕ) → Bytes s → packetOf s ≡ Completion (headerOf s) → id < 2 ^ 16 → completer < 2 ^ 16
+    → packetOf (packetList (returned (headerOf s) id completer) (drop (headerBytes (kind (headerOf s))) s)) ≡ Completion (returned (headerOf s) id completer)
+returns-well-formed s id completer bytes e b c =
+    let h = headerOf s in
+    let k = returned h id completer in
+    let p = drop (headerBytes (kind h)) s in
+    let f = inverted-completion (length s) h h e .0 in
+    let size : length s ≡ totalBytes h = eqb-true (length s) (totalBytes h) (not-false (eqb (length s) (totalBytes h)) (f .whole)) in
+    let whole : length (packetList k p) ≡ length s = length-packet k p ∙ ap (λ (m : ℕ). headerBytes (kind h) + m) (length-drop (headerBytes (kind h)) s) ∙ (omega arith) in
+    ap (λ (m : ℕ). formOf m (headerOf (packetList k p))) whole
+    ∙ ap (formOf (length s)) (read-back k p (Rewrite.returned-proper h id completer b c (read-proper s bytes)))
+    ∙ returned-form (length s) h id completer e

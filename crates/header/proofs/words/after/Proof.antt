@@ -6,8 +6,8 @@ use lib.ListN.{length, drop, length-drop, drop-of-length-le}
 use Prim.Native.Nat.{_-_}
 use lib.Seq.{take-all}
 use denote.Ref.{now}
-use Rattle.tlp.proofs.write.after.Statement.{statement}
-use Rattle.tlp.proofs.write.after.Tie as tie
+use Rattle.header.proofs.words.after.Statement.{statement}
+use Rattle.header.proofs.words.after.Tie as tie
 
 sub-result : tie.Need-sub-result
 sub-result c = search needs
