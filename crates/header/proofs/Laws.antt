@@ -1,5 +1,6 @@
 -- Laws of the header's definitions: what the functions' proofs share, and what the layers above cite.
 pub mod Pick
+pub mod Join
 pub mod Field
 pub mod Lengths
 pub mod Words

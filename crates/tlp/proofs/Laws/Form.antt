@@ -24,6 +24,7 @@ use Rattle.header.specs.declared.words.Header.{Header}
 use Rattle.tlp.specs.declared.form.Packet.{Packet}
 use Rattle.tlp.specs.declared.form.Packet.the-variants.{Read, Write, Completion, Broken}
 use Rattle.header.proofs.Laws.Pick.{hit, pass, either}
+use Rattle.header.proofs.Laws.Join.{neither, one-of}
 use Rattle.header.proofs.Laws.Words.{Bytes, read-proper}
 use Rattle.header.proofs.Laws.Lengths.{header-bounds}
 use Rattle.header.proofs.Laws.Rewrite
@@ -111,15 +112,6 @@ inverted-write n h g e =
     by-test : (t : Bool) → pick t (Read h) (Write h) ≡ Write g → (t ≡ false) × (g ≡ h)
     by-test true q = let z : _≡_ {A = ℕ} 0 1 = cc in absurd (omega arith)
     by-test false q = (refl, (cc))
-
--- what a join of tests tells
-neither : (a b : Bool) → (a || b) ≡ false → (a ≡ false) × (b ≡ false)
-neither true b e = absurd (true≢false e)
-neither false b e = (refl, e)
-
-one-of : (a b : Bool) → (a || b) ≡ true → (a ≡ true) ⊎ (b ≡ true)
-one-of true b e = inl refl
-one-of false b e = inr e
 
 -- a kind whose byte is g, or g with bit 5
 Group : ℕ → ℕ → Type 0

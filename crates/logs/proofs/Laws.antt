@@ -1,0 +1,2 @@
+-- Laws of the logs.
+pub mod Frame

@@ -1,0 +1,2 @@
+-- What the logs mean.
+pub mod Logs

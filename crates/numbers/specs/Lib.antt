@@ -1,0 +1,3 @@
+-- What the table of numbers means.
+pub mod Entries
+pub mod Buses

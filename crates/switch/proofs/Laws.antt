@@ -1,0 +1,3 @@
+-- Laws of passing.
+pub mod Call
+pub mod Sender

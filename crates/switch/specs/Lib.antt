@@ -1,0 +1,4 @@
+-- What passing a packet means.
+pub mod Answer
+pub mod Rule
+pub mod After

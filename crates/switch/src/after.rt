@@ -1,0 +1,79 @@
+// What passing changes: Out and the sender's log, as the outcome says.
+ghost use mathlib.Core.Path.{_≡_};
+ghost use Rattle.switch.specs.Answer.{refusalNumber, onPaper};
+ghost use Rattle.switch.specs.After.{dataOf, outAfter, logBit, logged, logsAfter};
+use crate::answer::Outcome;
+use crate::answer::Refusal;
+use header::words;
+use header::words::Header;
+use logs::Bit;
+
+// Whether a refusal is logged, and under which bit.
+pub enum Logged {
+    No,
+    Under(Bit),
+}
+
+impl Refusal {
+    // The list's column "Log bit".
+    pub fn log_bit(self) -> Logged
+        ensures { λ r. ⌜ r ≡ logBit (refusalNumber self) ⌝ }
+    {
+        match self {
+            Refusal::WrongCall => Logged::No,
+            Refusal::SenderInactive => Logged::No,
+            Refusal::Form => Logged::Under(Bit::Malformed),
+            Refusal::NotCarried => Logged::Under(Bit::Unsupported),
+            Refusal::Poisoned => Logged::Under(Bit::Poisoned),
+            Refusal::NoWindow => Logged::Under(Bit::Unsupported),
+            Refusal::NoEntry => Logged::Under(Bit::Unsupported),
+            Refusal::DestinationInactive => Logged::Under(Bit::Unsupported),
+            Refusal::NotPassable => Logged::Under(Bit::UnexpectedCompletion),
+        }
+    }
+}
+
+// What follows the header of a packet.
+fn data_of(packet: &[u8]) -> &[u8]
+    ensures { λ r. ⌜ now r ≡ dataOf (now (packet .entry)) ⌝ }
+{
+    words::after(packet, Header::read(packet).header_bytes())
+}
+
+// Writes what came out, if anything did.
+pub fn write_out(outcome: Outcome, packet: &[u8], out: &mut [u8])
+    ensures { λ r. ⌜ now (out .exit) ≡ outAfter (onPaper outcome) (now (packet .entry)) (now (out .entry)) ⌝ }
+{
+    match outcome {
+        Outcome::Crossed(sent) => {
+            let h = sent.header;
+            tlp::write::write(h, data_of(packet), out);
+        }
+        Outcome::Answered(_, sent) => {
+            let h = sent.header;
+            tlp::write::write(h, b"", out);
+        }
+        Outcome::Dropped(_) => {}
+    }
+}
+
+// Logs an error in the row of `p`, if it is one that is logged.
+fn log(entry: Logged, p: u8, h: Header, logs: &mut [u32])
+    ensures { λ r. ⌜ now (logs .exit) ≡ logged entry p h (now (logs .entry)) ⌝ }
+{
+    match entry {
+        Logged::No => {}
+        Logged::Under(bit) => logs::record(p, bit, h, logs),
+    }
+}
+
+// Logs what was refused.
+pub fn write_log(outcome: Outcome, p: u8, packet: &[u8], logs: &mut [u32])
+    ensures { λ r. ⌜ now (logs .exit) ≡ logsAfter (onPaper outcome) p (now (packet .entry)) (now (logs .entry)) ⌝ }
+{
+    match outcome {
+        Outcome::Crossed(_) => {}
+        Outcome::Answered(refusal, _) => log(refusal.log_bit(), p, Header::read(packet), logs),
+        Outcome::Dropped(refusal) => log(refusal.log_bit(), p, Header::read(packet), logs),
+    }
+}

@@ -1,0 +1,241 @@
+// "Passing a packet from partition p": the decision, in the list's order. It only reads.
+ghost use mathlib.Core.Path.{_≡_};
+ghost use mathlib.Core.Bool.{true};
+ghost use Prim.Native.Nat.{_<_};
+ghost use Rattle.header.specs.Fields.{requesterId};
+ghost use Rattle.numbers.specs.Entries.{entryOf};
+ghost use Rattle.tlp.specs.Form.{ruleNumber};
+ghost use Rattle.switch.specs.Answer.{refusalNumber, onPaper};
+ghost use Rattle.switch.specs.Rule.{
+  wrongCall,
+  refused,
+  outgoing,
+  toDestination,
+  throughEntry,
+  throughWindow,
+  requestRule,
+  isPassable,
+  returning,
+  toOwner,
+  throughHeld,
+  completionRule,
+  packetRule,
+  passRule,
+};
+use crate::answer::Outcome;
+use crate::answer::Refusal;
+use crate::answer::Sent;
+use header::words::Header;
+use numbers::buses;
+use numbers::entries;
+use numbers::entries::Entry;
+use numbers::entries::Found;
+use tlp::count;
+use tlp::form::Packet;
+use tlp::form::Rule;
+use windows::look;
+use windows::look::Look;
+use windows::look::Translation;
+
+// 1: "partition above 15, a table of another length, Out too short".
+fn wrong_call(p: u32, windows: usize, numbers: usize, logs: usize, out: usize) -> bool
+    ensures { λ r. ⌜ r ≡ wrongCall p windows numbers logs out ⌝ }
+{
+    (15 < p) | (windows != 768) | (numbers != 80) | (logs != 96) | (out < 4112)
+}
+
+// A refused request: a read is answered, anything else dropped.
+fn refuse(reading: bool, refusal: Refusal, p: u8, bus: u8, h: Header) -> Outcome
+    ensures { λ r. ⌜ onPaper r ≡ refused reading (refusalNumber refusal) p bus h ⌝ }
+{
+    if reading {
+        return Outcome::Answered(refusal, Sent::new(count::answer(h, 256 * (bus as u16)), p));
+    }
+    Outcome::Dropped(refusal)
+}
+
+// A request out, under the number of entry `i` on this bus.
+fn send(h: Header, t: Translation, bus: u8, i: u16) -> Outcome
+    requires { ⌜ i < 64 ⌝ }
+    ensures { λ r. ⌜ onPaper r ≡ outgoing h t bus i ⌝ }
+{
+    let moved = h.readdressed(t.address);
+    Outcome::Crossed(Sent::new(moved.renamed(256 * (bus as u16) + 64 + i), t.destination))
+}
+
+// 8, or it crosses.
+fn to_destination(
+    reading: bool,
+    p: u8,
+    bus: u8,
+    h: Header,
+    t: Translation,
+    i: u16,
+    numbers: &[u32],
+) -> Outcome
+    requires { ⌜ i < 64 ⌝ }
+    ensures { λ r. ⌜ onPaper r ≡ toDestination reading p bus h t i (now (numbers .entry)) ⌝ }
+{
+    if !buses::is_active(numbers, t.destination) {
+        return refuse(reading, Refusal::DestinationInactive, p, bus, h);
+    }
+    send(h, t, (buses::bus(numbers, t.destination) % 256) as u8, i)
+}
+
+// 7, or on.
+fn through_entry(
+    found: Found,
+    reading: bool,
+    p: u8,
+    bus: u8,
+    h: Header,
+    t: Translation,
+    numbers: &[u32],
+) -> Outcome
+    requires { ⌜ (found ≡ entryOf (now numbers) p (requesterId h)) × (p < 16) ⌝ }
+    ensures { λ r. ⌜ onPaper r ≡ throughEntry found reading p bus h t (now (numbers .entry)) ⌝ }
+{
+    match found {
+        Found::Nothing => refuse(reading, Refusal::NoEntry, p, bus, h),
+        Found::At(i) => to_destination(reading, p, bus, h, t, i, numbers),
+    }
+}
+
+// 6, or on.
+fn through_window(look: Look, reading: bool, p: u8, bus: u8, h: Header, numbers: &[u32]) -> Outcome
+    requires { ⌜ p < 16 ⌝ }
+    ensures { λ r. ⌜ onPaper r ≡ throughWindow look reading p bus h (now (numbers .entry)) ⌝ }
+{
+    match look {
+        Look::Shut => refuse(reading, Refusal::NoWindow, p, bus, h),
+        Look::Open(t) => {
+            through_entry(
+                entries::find(numbers, p, h.requester_id()),
+                reading,
+                p,
+                bus,
+                h,
+                t,
+                numbers,
+            )
+        }
+    }
+}
+
+// Requests: 5, 6, 7, 8.
+fn request(reading: bool, p: u8, bus: u8, h: Header, windows: &[u64], numbers: &[u32]) -> Outcome
+    requires { ⌜ p < 16 ⌝ }
+    ensures { λ r. ⌜ onPaper r ≡ requestRule reading p bus h (now (windows .entry)) (now (numbers .entry)) ⌝ }
+{
+    if h.is_poisoned() {
+        return refuse(reading, Refusal::Poisoned, p, bus, h);
+    }
+    through_window(
+        look::look_up(windows, p, h.address()),
+        reading,
+        p,
+        bus,
+        h,
+        numbers,
+    )
+}
+
+// The owner of the entry differs from the sender, is active, and has a window to it.
+fn is_passable(owner: u8, p: u8, windows: &[u64], numbers: &[u32]) -> bool
+    ensures { λ r. ⌜ r ≡ isPassable owner p (now (windows .entry)) (now (numbers .entry)) ⌝ }
+{
+    (owner != p) & buses::is_active(numbers, owner) & look::reaches(windows, owner, p)
+}
+
+// A completion back, to the owner of the entry.
+fn send_back(h: Header, id: u16, owner: u8, bus: u8) -> Outcome
+    ensures { λ r. ⌜ onPaper r ≡ returning h id owner bus ⌝ }
+{
+    Outcome::Crossed(Sent::new(h.returned(id, 256 * (bus as u16)), owner))
+}
+
+// It crosses, or 9.
+fn to_owner(id: u16, owner: u8, p: u8, h: Header, windows: &[u64], numbers: &[u32]) -> Outcome
+    ensures { λ r. ⌜ onPaper r ≡ toOwner id owner p h (now (windows .entry)) (now (numbers .entry)) ⌝ }
+{
+    if is_passable(owner, p, windows, numbers) {
+        return send_back(h, id, owner, (buses::bus(numbers, owner) % 256) as u8);
+    }
+    Outcome::Dropped(Refusal::NotPassable)
+}
+
+// 9 where the entry is free, or on.
+fn through_held(entry: Entry, i: u16, p: u8, h: Header, windows: &[u64], numbers: &[u32]) -> Outcome
+    requires { ⌜ i < 64 ⌝ }
+    ensures { λ r. ⌜ onPaper r ≡ throughHeld entry i p h (now (windows .entry)) (now (numbers .entry)) ⌝ }
+{
+    match entry {
+        Entry::Free => Outcome::Dropped(Refusal::NotPassable),
+        Entry::Held(id) => to_owner(id, (i / 4) as u8, p, h, windows, numbers),
+    }
+}
+
+// Completions: 5, 9.
+fn completion(p: u8, bus: u8, h: Header, windows: &[u64], numbers: &[u32]) -> Outcome
+    ensures { λ r. ⌜ onPaper r ≡ completionRule p bus h (now (windows .entry)) (now (numbers .entry)) ⌝ }
+{
+    if h.is_poisoned() {
+        return Outcome::Dropped(Refusal::Poisoned);
+    }
+    let id = h.completion_requester_id();
+    let i = id % 64;
+    if id != 256 * (bus as u16) + 64 + i {
+        return Outcome::Dropped(Refusal::NotPassable);
+    }
+    through_held(entries::entry_at(numbers, i), i, p, h, windows, numbers)
+}
+
+// The refusal for a rule of form that broke.
+fn broken(rule: Rule) -> Refusal
+    ensures { λ r. ⌜ refusalNumber r ≡ ruleNumber rule ⌝ }
+{
+    match rule {
+        Rule::TooShort => Refusal::Form,
+        Rule::NotCarried => Refusal::NotCarried,
+        Rule::WrongLength => Refusal::Form,
+        Rule::Enables => Refusal::Form,
+        Rule::Contiguity => Refusal::Form,
+        Rule::PageCrossing => Refusal::Form,
+        Rule::ZeroHighWord => Refusal::Form,
+    }
+}
+
+// 3 and 4 by the packet layer; then requests or completions.
+fn of_packet(packet: Packet, p: u8, bus: u8, windows: &[u64], numbers: &[u32]) -> Outcome
+    requires { ⌜ p < 16 ⌝ }
+    ensures { λ r. ⌜ onPaper r ≡ packetRule packet p bus (now (windows .entry)) (now (numbers .entry)) ⌝ }
+{
+    match packet {
+        Packet::Read(h) => request(true, p, bus, h, windows, numbers),
+        Packet::Write(h) => request(false, p, bus, h, windows, numbers),
+        Packet::Completion(h) => completion(p, bus, h, windows, numbers),
+        Packet::Broken(rule) => Outcome::Dropped(broken(rule)),
+    }
+}
+
+// The whole decision, of the lengths of the logs and of Out and of everything else that is read.
+pub fn decide(
+    p: u32,
+    packet: &[u8],
+    windows: &[u64],
+    numbers: &[u32],
+    logs: usize,
+    out: usize,
+) -> Outcome
+    ensures { λ r. ⌜ onPaper r ≡ passRule p (now (packet .entry)) (now (windows .entry)) (now (numbers .entry)) logs out ⌝ }
+{
+    if wrong_call(p, windows.len(), numbers.len(), logs, out) {
+        return Outcome::Dropped(Refusal::WrongCall);
+    }
+    let sender = (p % 256) as u8;
+    if !buses::is_active(numbers, sender) {
+        return Outcome::Dropped(Refusal::SenderInactive);
+    }
+    let bus = (buses::bus(numbers, sender) % 256) as u8;
+    of_packet(Packet::read(packet), sender, bus, windows, numbers)
+}

@@ -1,0 +1,3 @@
+-- Laws of what the tables share.
+pub mod Scan
+pub mod Answer

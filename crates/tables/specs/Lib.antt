@@ -1,0 +1,3 @@
+-- What all the lent tables share.
+pub mod Scan
+pub mod Answer

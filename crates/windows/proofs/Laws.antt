@@ -1,0 +1,5 @@
+-- Laws of the table of windows.
+pub mod Row
+pub mod Look
+pub mod Edit
+pub mod Frame

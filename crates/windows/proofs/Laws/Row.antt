@@ -1,0 +1,88 @@
+-- What a row in force tells, and what a covered address becomes: it fits 64 bits, and its low twelve bits stay.
+-- Base and target are multiples of 2^k, and the offset is below 2^k. Assumes nothing.
+use Prim.Native.Nat.{ℕ, _+_, _-_, _*_, _/_, _%_, _^_, _≤_, _<_}
+use mathlib.Core.Path.{_≡_, sym, ap, _∙_}
+use mathlib.Core.Bool.{true, not, _&&_}
+use native.Mathlib.Omega.{arith}
+use borrow.Author.Tests.{leb-true, ltb-true, eqb-true, eqb-false, not-true}
+use lib.Dec.{eqb, ltb, leb}
+use lib.Pow.{shl-exact, pow-add, split, shr-lt, mod-mod-pow}
+use lib.Arith.{digits-lt}
+use native.Mathlib.Nat.{one-mul}
+use Rattle.header.proofs.Laws.Join.{both}
+use Rattle.windows.specs.Row.{exponent, destination, isEnabled, spareZero, isSized, isPlain, aligned, inForce, spans, covers}
+use Rattle.windows.specs.declared.row.Window.{Window}
+
+-- a size that is one
+pub sized : (k : ℕ) → isSized k ≡ true → (12 ≤ k) × (k ≤ 39)
+sized k e = let r = both (leb 12 k) (leb k 39) e in (leb-true 12 k (r .0), leb-true k 39 (r .1))
+
+-- the size of a plain row
+pub plain-size : (w : Window) → isPlain w ≡ true → (12 ≤ exponent w) × (exponent w ≤ 39)
+plain-size w e = sized (exponent w) (both (isEnabled w && spareZero w) (isSized (exponent w)) e .1)
+
+-- what a row in force tells
+pub record Force (p : ℕ) (w : Window) : Type 0 where
+  pub plain : isPlain w ≡ true
+  pub base : w .base % 2 ^ exponent w ≡ 0
+  pub target : w .target % 2 ^ exponent w ≡ 0
+  pub other : destination w ≡ p → ⊥
+
+pub force : (p : ℕ) (w : Window) → inForce p w ≡ true → Force p w
+unfolding inForce aligned
+force p w e =
+    let a = both (isPlain w) (aligned (w .base) (exponent w) && aligned (w .target) (exponent w) && not (eqb (destination w) p)) e in
+    let d = both (aligned (w .base) (exponent w) && aligned (w .target) (exponent w)) (not (eqb (destination w) p)) (a .1) in
+    let f = both (aligned (w .base) (exponent w)) (aligned (w .target) (exponent w)) (d .0) in
+    record {
+      plain = a .0;
+      base = eqb-true (w .base % 2 ^ exponent w) 0 (f .0);
+      target = eqb-true (w .target % 2 ^ exponent w) 0 (f .1);
+      other = eqb-false (destination w) p (not-true (eqb (destination w) p) (d .1));
+    }
+
+-- an address that a span holds
+pub spanned : (base k a : ℕ) → spans base k a ≡ true → (base ≤ a) × (a - base < 2 ^ k)
+unfolding spans
+spanned base k a e = let r = both (leb base a) (ltb (a - base) (2 ^ k)) e in (leb-true base a (r .0), ltb-true (a - base) (2 ^ k) (r .1))
+
+-- a power below 2^64 is made by a shift, and nothing is shifted out
+pub shifted : (k : ℕ) → k < 64 → 1 * 2 ^ k % 2 ^ 64 ≡ 2 ^ k
+shifted k h = shl-exact 1 k 64 (omega arith) (omega arith) ∙ one-mul (2 ^ k)
+
+-- a multiple of 2^k below 2^64 leaves room for an offset below 2^k
+room : (t o k : ℕ) → k ≤ 64 → t < 2 ^ 64 → t % 2 ^ k ≡ 0 → o < 2 ^ k → o + t < 2 ^ 64
+room t o k h b z l =
+    let e : 64 ≡ 64 - k + k = omega arith in
+    let b′ : t < 2 ^ (64 - k + k) = rw (← e) b in
+    let top : t / 2 ^ k * 2 ^ k + o < 2 ^ (64 - k) * 2 ^ k = digits-lt (shr-lt (64 - k) k b′) l in
+    let whole : 2 ^ (64 - k) * 2 ^ k ≡ 2 ^ 64 = sym (pow-add 2 (64 - k) k) ∙ ap (λ (n : ℕ). 2 ^ n) (sym e) in
+    omega (arith, split t k, top, whole, z)
+
+-- a covered address is not below the base, and what it becomes fits 64 bits
+pub covered-fits : (p a : ℕ) (w : Window) → w .target < 2 ^ 64 → covers p a w ≡ true → (w .base ≤ a) × (a - w .base + w .target < 2 ^ 64)
+covered-fits p a w b e =
+    let r = both (inForce p w) (spans (w .base) (exponent w) a) e in
+    let f = force p w (r .0) in
+    let s = spanned (w .base) (exponent w) a (r .1) in
+    let k = plain-size w (f .plain) in
+    (s .0, room (w .target) (a - w .base) (exponent w) (omega arith) b (f .target) (s .1))
+
+-- a multiple of 2^k, with k at least 12, is one of a page
+paged : (n k : ℕ) → 12 ≤ k → n % 2 ^ k ≡ 0 → n % 2 ^ 12 ≡ 0
+paged n k h z =
+    let e : k ≡ k - 12 + 12 = omega arith in
+    let z′ : n % 2 ^ (k - 12 + 12) ≡ 0 = rw (← e) z in
+    sym (mod-mod-pow n (k - 12) 12) ∙ ap (λ (m : ℕ). m % 2 ^ 12) z′
+
+-- "moved by whole 4 KiB pages": the low twelve bits of a covered address stay
+pub covered-pages : (p a : ℕ) (w : Window) → covers p a w ≡ true → (a - w .base + w .target) % 2 ^ 12 ≡ a % 2 ^ 12
+covered-pages p a w e =
+    let r = both (inForce p w) (spans (w .base) (exponent w) a) e in
+    let f = force p w (r .0) in
+    let s = spanned (w .base) (exponent w) a (r .1) in
+    let k = plain-size w (f .plain) in
+    moved a (w .base) (w .target) (s .0) (paged (w .base) (exponent w) (k .0) (f .base)) (paged (w .target) (exponent w) (k .0) (f .target))
+  where
+    moved : (a b t : ℕ) → b ≤ a → b % 2 ^ 12 ≡ 0 → t % 2 ^ 12 ≡ 0 → (a - b + t) % 2 ^ 12 ≡ a % 2 ^ 12
+    moved a b t l p q = omega arith

@@ -1,0 +1,27 @@
+-- A row that is not in force overlaps nothing; of one in force the shift is in range, and the spans say. Assumes nothing.
+use borrow.Author.Needs.{needs}
+use native.Mathlib.Omega.{arith}
+use Rattle.header.proofs.Laws.Pick.{told}
+use Rattle.header.proofs.Laws.Join.{and-no, and-yes}
+use Rattle.windows.proofs.Laws.Row.{plain-size, force}
+use Rattle.windows.proofs.edit.row_overlaps.Statement.{statement}
+use Rattle.windows.proofs.edit.row_overlaps.Tie as tie
+
+in-force-requires : tie.Need-in-force-requires
+in-force-requires c κs = search needs
+
+exponent-requires : tie.Need-exponent-requires
+exponent-requires c κs = search needs
+
+overlap-requires : tie.Need-overlap-requires
+overlap-requires c κs = (omega arith, omega (arith, c .exponent .ensures, plain-size (c .before .before .before .args .w) (force (c .before .before .before .args .p) (c .before .before .before .args .w) (told (c .before .before .in-force .ensures) (c .before .if1 .taken)) .plain)))
+
+returns : tie.Need-returns
+returns c = and-yes _ _ _ (told (c .before .before .before .in-force .ensures) (c .before .before .if1 .taken)) (cc)
+
+returns-2 : tie.Need-returns-2
+returns-2 c = and-no _ _ (told (c .before .in-force .ensures) (c .if1 .left))
+
+pub row-overlaps-spec : {M : Type 1} → statement M
+row-overlaps-spec =
+    tie.close (tie.spec in-force-requires exponent-requires overlap-requires returns returns-2)

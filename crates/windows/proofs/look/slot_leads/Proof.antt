@@ -1,0 +1,18 @@
+-- The row's own test. Assumes nothing.
+use borrow.Author.Needs.{needs}
+use mathlib.Core.Path.{ap, _∙_}
+use Rattle.windows.specs.Row.{leads}
+use Rattle.windows.proofs.look.slot_leads.Statement.{statement}
+use Rattle.windows.proofs.look.slot_leads.Tie as tie
+
+read-requires : tie.Need-read-requires
+read-requires c κs = search needs
+
+leads-requires : tie.Need-leads-requires
+leads-requires c κs = search needs
+
+returns : tie.Need-returns
+returns c = c .leads .ensures ∙ ap (leads (c .before .before .before .args .p) (c .before .before .before .args .q)) (c .before .read .ensures)
+
+pub slot-leads-spec : {M : Type 1} → statement M
+slot-leads-spec = tie.close (tie.spec read-requires leads-requires returns)
