@@ -1,3 +1,5 @@
 -- Laws of passing.
 pub mod Call
+pub mod Frame
+pub mod Paper
 pub mod Sender

@@ -12,6 +12,9 @@ use Rattle.tlp.specs.Form.{packetOf, ruleNumber}
 use Rattle.tlp.specs.Count.{answerTo}
 use Rattle.tlp.specs.declared.form.Packet.{Packet}
 use Rattle.tlp.specs.declared.form.Packet.the-variants.{Read, Write, Completion, Broken}
+use Rattle.windows.specs.Row.{tableLength as windowsLength}
+use Rattle.numbers.specs.Entries.{tableLength as numbersLength}
+use Rattle.logs.specs.Logs.{tableLength as logsLength}
 use Rattle.windows.specs.Look.{lookUp, reaches}
 use Rattle.windows.specs.declared.look.Translation.{Translation}
 use Rattle.windows.specs.declared.look.Look.{Look}
@@ -24,10 +27,14 @@ use Rattle.numbers.specs.declared.entries.Found.{Found}
 use Rattle.numbers.specs.declared.entries.Found.the-variants.{Nothing, At}
 use Rattle.switch.specs.Answer.{Answer, crossed, answered, dropped, sentOf}
 
+-- "Out: at least 4,112 bytes (16 of header, 4,096 of data)"
+abbrev pub outLength : ℕ
+outLength = 16 + 4096
+
 -- 1: "partition above 15, .. a table of another length, Out too short"
 abbrev pub wrongCall : ℕ → ℕ → ℕ → ℕ → ℕ → Bool
 wrongCall p windows numbers logs out =
-    ltb 15 p || not (eqb windows 768) || not (eqb numbers 80) || not (eqb logs 96) || ltb out 4112
+    ltb 15 p || not (eqb windows windowsLength) || not (eqb numbers numbersLength) || not (eqb logs logsLength) || ltb out outLength
 
 -- an ID of a bus: "256 × bus"
 abbrev pub busId : ℕ → ℕ

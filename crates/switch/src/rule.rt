@@ -26,22 +26,32 @@ use crate::answer::Outcome;
 use crate::answer::Refusal;
 use crate::answer::Sent;
 use header::words::Header;
+use logs::Logs;
 use numbers::buses;
 use numbers::entries;
 use numbers::entries::Entry;
 use numbers::entries::Found;
+use numbers::entries::Numbers;
 use tlp::count;
 use tlp::form::Packet;
 use tlp::form::Rule;
 use windows::look;
 use windows::look::Look;
 use windows::look::Translation;
+use windows::row::Window;
+
+// The shortest Out: 16 bytes of header and 4,096 of data.
+pub const OUT_LENGTH: usize = 4112;
 
 // 1: "partition above 15, a table of another length, Out too short".
 fn wrong_call(p: u32, windows: usize, numbers: usize, logs: usize, out: usize) -> bool
     ensures { λ r. ⌜ r ≡ wrongCall p windows numbers logs out ⌝ }
 {
-    (15 < p) | (windows != 768) | (numbers != 80) | (logs != 96) | (out < 4112)
+    (15 < p)
+        | (windows != Window::LENGTH)
+        | (numbers != Numbers::LENGTH)
+        | (logs != Logs::LENGTH)
+        | (out < OUT_LENGTH)
 }
 
 // A refused request: a read is answered, anything else dropped.

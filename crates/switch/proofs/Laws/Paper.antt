@@ -1,0 +1,57 @@
+-- The paper's answer determines the outcome: the contract on paper, `onPaper r ≡ rule`, says all of r.
+-- The refusals' numbers are led back to the refusals, and the answers' constructors are one to one. Assumes nothing.
+use Prim.Native.Nat.{ℕ}
+use mathlib.Core.Path.{_≡_, refl, sym, ap, _∙_}
+use native.Mathlib.Omega.{arith}
+use lib.Dec.{eqb}
+use Rattle.header.specs.Pick.{pick}
+use Rattle.switch.specs.declared.answer.Refusal.{Refusal}
+use Rattle.switch.specs.declared.answer.Refusal.the-variants.{WrongCall, SenderInactive, Form, NotCarried, Poisoned, NoWindow, NoEntry, DestinationInactive, NotPassable}
+use Rattle.switch.specs.declared.answer.Outcome.{Outcome}
+use Rattle.switch.specs.declared.answer.Outcome.the-variants.{Crossed, Answered, Dropped}
+use Rattle.switch.specs.Answer.{refusalNumber, onPaper}
+
+-- the refusal of a number
+abbrev ofNumber : ℕ → Refusal
+ofNumber n =
+    pick (eqb n 1) WrongCall
+    (pick (eqb n 2) SenderInactive
+    (pick (eqb n 3) Form
+    (pick (eqb n 4) NotCarried
+    (pick (eqb n 5) Poisoned
+    (pick (eqb n 6) NoWindow
+    (pick (eqb n 7) NoEntry
+    (pick (eqb n 8) DestinationInactive NotPassable)))))))
+
+led-back : (r : Refusal) → ofNumber (refusalNumber r) ≡ r
+unfolding pick
+led-back WrongCall = refl
+led-back SenderInactive = refl
+led-back Form = refl
+led-back NotCarried = refl
+led-back Poisoned = refl
+led-back NoWindow = refl
+led-back NoEntry = refl
+led-back DestinationInactive = refl
+led-back NotPassable = refl
+
+-- two refusals of one number are the same
+pub number-determines : (r s : Refusal) → refusalNumber r ≡ refusalNumber s → r ≡ s
+number-determines r s e = sym (led-back r) ∙ ap ofNumber e ∙ led-back s
+
+-- two outcomes that give the same are the same
+pub paper-determines : (a b : Outcome) → onPaper a ≡ onPaper b → a ≡ b
+paper-determines (Crossed s) (Crossed t) e = let q : s ≡ t = cc in ap Crossed q
+paper-determines (Crossed s) (Answered r t) e = let z : _≡_ {A = ℕ} 0 1 = cc in absurd (omega arith)
+paper-determines (Crossed s) (Dropped r) e = let z : _≡_ {A = ℕ} 0 1 = cc in absurd (omega arith)
+paper-determines (Answered r s) (Crossed t) e = let z : _≡_ {A = ℕ} 0 1 = cc in absurd (omega arith)
+paper-determines (Answered r s) (Answered u t) e =
+    let n : refusalNumber r ≡ refusalNumber u = cc in
+    let q : s ≡ t = cc in
+    ap (λ (k : Refusal). Answered k s) (number-determines r u n) ∙ ap (Answered u) q
+paper-determines (Answered r s) (Dropped u) e = let z : _≡_ {A = ℕ} 0 1 = cc in absurd (omega arith)
+paper-determines (Dropped r) (Crossed t) e = let z : _≡_ {A = ℕ} 0 1 = cc in absurd (omega arith)
+paper-determines (Dropped r) (Answered u t) e = let z : _≡_ {A = ℕ} 0 1 = cc in absurd (omega arith)
+paper-determines (Dropped r) (Dropped u) e =
+    let n : refusalNumber r ≡ refusalNumber u = cc in
+    ap Dropped (number-determines r u n)
