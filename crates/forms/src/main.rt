@@ -56,12 +56,16 @@ fn print_first(bytes: &[u8], n: usize) {
     }
 }
 
-// A packet of `n` bytes, at most 4,113: these words, and zeros behind them.
-fn show(name: &[u8], n: usize, w0: u32, w1: u32, w2: u32, w3: u32) {
-    let mut bytes = [0u8; 4113];
-    tlp::write::write(Header { w0, w1, w2, w3 }, b"", &mut bytes);
+// The name of what is shown next.
+fn say(name: &[u8]) {
     io::write_all(STDOUT_FILENO, name);
     io::write_all(STDOUT_FILENO, b": ");
+}
+
+// A packet of `n` bytes, at most 4,113: these words, and zeros behind them.
+fn show(n: usize, w0: u32, w1: u32, w2: u32, w3: u32) {
+    let mut bytes = [0u8; 4113];
+    tlp::write::write(Header { w0, w1, w2, w3 }, b"", &mut bytes);
     print_first(&bytes, n);
 }
 
@@ -69,8 +73,8 @@ fn show(name: &[u8], n: usize, w0: u32, w1: u32, w2: u32, w3: u32) {
 fn kind(name: &[u8], byte: u8) {
     io::print_hex(STDOUT_FILENO, byte as u64, 2);
     io::write_all(STDOUT_FILENO, b" ");
+    say(name);
     show(
-        name,
         12,
         (byte as u32) * 0x0100_0000 + 1,
         0x0300_050F,
@@ -118,48 +122,30 @@ fn word_0(kind: u8) -> u32 {
 
 // "The six kinds", by their names, in packets that break no rule.
 fn carried() {
+    say(b"00 read");
+    show(12, word_0(Kind::READ_32), 0x0300_050F, 0x9000_0010, 0);
+    say(b"20 read");
     show(
-        b"00 read",
-        12,
-        word_0(Kind::READ_32),
-        0x0300_050F,
-        0x9000_0010,
-        0,
-    );
-    show(
-        b"20 read",
         16,
         word_0(Kind::READ_64),
         0x0300_050F,
         0x0000_0001,
         0x4000_0010,
     );
+    say(b"40 write");
+    show(16, word_0(Kind::WRITE_32), 0x0300_050F, 0x9000_0010, 0);
+    say(b"60 write");
     show(
-        b"40 write",
-        16,
-        word_0(Kind::WRITE_32),
-        0x0300_050F,
-        0x9000_0010,
-        0,
-    );
-    show(
-        b"60 write",
         20,
         word_0(Kind::WRITE_64),
         0x0300_050F,
         0x0000_0001,
         0x4000_0010,
     );
+    say(b"0a completion");
+    show(12, word_0(Kind::COMPLETION), 0x0100_0004, 0x0300_0510, 0);
+    say(b"4a completion with data");
     show(
-        b"0a completion",
-        12,
-        word_0(Kind::COMPLETION),
-        0x0100_0004,
-        0x0300_0510,
-        0,
-    );
-    show(
-        b"4a completion with data",
         16,
         word_0(Kind::COMPLETION_WITH_DATA),
         0x0100_0004,
@@ -208,363 +194,112 @@ fn bit_31() {
 
 // "TD set; AT not 0", on requests and on completions.
 fn digests_and_translated() {
-    show(
-        b"read with TD",
-        12,
-        0x0000_8001,
-        0x0300_050F,
-        0x9000_0010,
-        0,
-    );
-    show(
-        b"completion with TD",
-        12,
-        0x0A00_8000,
-        0x0100_0004,
-        0x0300_0510,
-        0,
-    );
-    show(
-        b"read with AT 1",
-        12,
-        0x0000_0401,
-        0x0300_050F,
-        0x9000_0010,
-        0,
-    );
-    show(
-        b"write with AT 2",
-        16,
-        0x4000_0801,
-        0x0300_050F,
-        0x9000_0010,
-        0,
-    );
-    show(
-        b"completion with AT 3",
-        12,
-        0x0A00_0C00,
-        0x0100_0004,
-        0x0300_0510,
-        0,
-    );
+    say(b"read with TD");
+    show(12, 0x0000_8001, 0x0300_050F, 0x9000_0010, 0);
+    say(b"completion with TD");
+    show(12, 0x0A00_8000, 0x0100_0004, 0x0300_0510, 0);
+    say(b"read with AT 1");
+    show(12, 0x0000_0401, 0x0300_050F, 0x9000_0010, 0);
+    say(b"write with AT 2");
+    show(16, 0x4000_0801, 0x0300_050F, 0x9000_0010, 0);
+    say(b"completion with AT 3");
+    show(12, 0x0A00_0C00, 0x0100_0004, 0x0300_0510, 0);
 }
 
 // "Fewer than 12 bytes", whatever the kind; "header or data length wrong".
 fn short_packets() {
-    show(b"no bytes", 0, 0, 0, 0, 0);
-    show(
-        b"11 bytes of a read",
-        11,
-        0x0000_0001,
-        0x0300_050F,
-        0x9000_0010,
-        0,
-    );
-    show(
-        b"11 bytes of a locked read",
-        11,
-        0x0100_0001,
-        0x0300_050F,
-        0x9000_0010,
-        0,
-    );
-    show(
-        b"12 bytes of a 64-bit read",
-        12,
-        0x2000_0001,
-        0x0300_050F,
-        0x0000_0001,
-        0x4000_0010,
-    );
-    show(
-        b"13 bytes of a 64-bit read",
-        13,
-        0x2000_0001,
-        0x0300_050F,
-        0x0000_0001,
-        0x4000_0010,
-    );
-    show(
-        b"14 bytes of a 64-bit read",
-        14,
-        0x2000_0001,
-        0x0300_050F,
-        0x0000_0001,
-        0x4000_0010,
-    );
-    show(
-        b"15 bytes of a 64-bit read",
-        15,
-        0x2000_0001,
-        0x0300_050F,
-        0x0000_0001,
-        0x4000_0010,
-    );
-    show(
-        b"17 bytes of a 64-bit read",
-        17,
-        0x2000_0001,
-        0x0300_050F,
-        0x0000_0001,
-        0x4000_0010,
-    );
-    show(
-        b"12 bytes of a 64-bit read with TD",
-        12,
-        0x2000_8001,
-        0x0300_050F,
-        0x0000_0001,
-        0x4000_0010,
-    );
-    show(
-        b"read with a dword of data",
-        16,
-        0x0000_0001,
-        0x0300_050F,
-        0x9000_0010,
-        0,
-    );
+    say(b"no bytes");
+    show(0, 0, 0, 0, 0);
+    say(b"11 bytes of a read");
+    show(11, 0x0000_0001, 0x0300_050F, 0x9000_0010, 0);
+    say(b"11 bytes of a locked read");
+    show(11, 0x0100_0001, 0x0300_050F, 0x9000_0010, 0);
+    say(b"12 bytes of a 64-bit read");
+    show(12, 0x2000_0001, 0x0300_050F, 0x0000_0001, 0x4000_0010);
+    say(b"13 bytes of a 64-bit read");
+    show(13, 0x2000_0001, 0x0300_050F, 0x0000_0001, 0x4000_0010);
+    say(b"14 bytes of a 64-bit read");
+    show(14, 0x2000_0001, 0x0300_050F, 0x0000_0001, 0x4000_0010);
+    say(b"15 bytes of a 64-bit read");
+    show(15, 0x2000_0001, 0x0300_050F, 0x0000_0001, 0x4000_0010);
+    say(b"17 bytes of a 64-bit read");
+    show(17, 0x2000_0001, 0x0300_050F, 0x0000_0001, 0x4000_0010);
+    say(b"12 bytes of a 64-bit read with TD");
+    show(12, 0x2000_8001, 0x0300_050F, 0x0000_0001, 0x4000_0010);
+    say(b"read with a dword of data");
+    show(16, 0x0000_0001, 0x0300_050F, 0x9000_0010, 0);
 }
 
 // "Length 9:0 in dwords, 0 meaning 1,024"; "for 0x0A the Length field is not read".
 fn lengths() {
-    show(
-        b"completion of Length 0",
-        12,
-        0x0A00_0000,
-        0x0100_0004,
-        0x0300_0510,
-        0,
-    );
-    show(
-        b"completion of Length 5",
-        12,
-        0x0A00_0005,
-        0x0100_0004,
-        0x0300_0510,
-        0,
-    );
-    show(
-        b"write of Length 0, no data",
-        12,
-        0x4000_0000,
-        0x0300_05FF,
-        0x9000_0000,
-        0,
-    );
-    show(
-        b"write of Length 0, 4,096 bytes",
-        4108,
-        0x4000_0000,
-        0x0300_05FF,
-        0x9000_0000,
-        0,
-    );
-    show(
-        b"64-bit write of Length 0, 4,096 bytes",
-        4112,
-        0x6000_0000,
-        0x0300_05FF,
-        0x0000_0001,
-        0x4000_0000,
-    );
-    show(
-        b"64-bit write of Length 0, 4,097 bytes",
-        4113,
-        0x6000_0000,
-        0x0300_05FF,
-        0x0000_0001,
-        0x4000_0000,
-    );
-    show(
-        b"completion with data of Length 0, 4,096 bytes",
-        4108,
-        0x4A00_0000,
-        0x0100_0000,
-        0x0300_0500,
-        0,
-    );
-    show(
-        b"completion with data of Length 0, no data",
-        12,
-        0x4A00_0000,
-        0x0100_0000,
-        0x0300_0500,
-        0,
-    );
+    say(b"completion of Length 0");
+    show(12, 0x0A00_0000, 0x0100_0004, 0x0300_0510, 0);
+    say(b"completion of Length 5");
+    show(12, 0x0A00_0005, 0x0100_0004, 0x0300_0510, 0);
+    say(b"write of Length 0, no data");
+    show(12, 0x4000_0000, 0x0300_05FF, 0x9000_0000, 0);
+    say(b"write of Length 0, 4,096 bytes");
+    show(4108, 0x4000_0000, 0x0300_05FF, 0x9000_0000, 0);
+    say(b"64-bit write of Length 0, 4,096 bytes");
+    show(4112, 0x6000_0000, 0x0300_05FF, 0x0000_0001, 0x4000_0000);
+    say(b"64-bit write of Length 0, 4,097 bytes");
+    show(4113, 0x6000_0000, 0x0300_05FF, 0x0000_0001, 0x4000_0000);
+    say(b"completion with data of Length 0, 4,096 bytes");
+    show(4108, 0x4A00_0000, 0x0100_0000, 0x0300_0500, 0);
+    say(b"completion with data of Length 0, no data");
+    show(12, 0x4A00_0000, 0x0100_0000, 0x0300_0500, 0);
 }
 
 // "Request form": enables.
 fn enables() {
-    show(
-        b"Length 1, first 0000",
-        12,
-        0x0000_0001,
-        0x0300_0500,
-        0x9000_0010,
-        0,
-    );
-    show(
-        b"Length 1, last 0001",
-        12,
-        0x0000_0001,
-        0x0300_051F,
-        0x9000_0010,
-        0,
-    );
-    show(
-        b"Length 1, first 0101",
-        12,
-        0x0000_0001,
-        0x0300_0505,
-        0x9000_0010,
-        0,
-    );
-    show(
-        b"Length 2, first 0000",
-        12,
-        0x0000_0002,
-        0x0300_05F0,
-        0x9000_0010,
-        0,
-    );
-    show(
-        b"Length 2, last 0000",
-        12,
-        0x0000_0002,
-        0x0300_050F,
-        0x9000_0010,
-        0,
-    );
-    show(
-        b"Length 1, first 0000, bit 16 set",
-        12,
-        0x0001_0001,
-        0x0300_0500,
-        0x9000_0010,
-        0,
-    );
-    show(
-        b"Length 1, first 1111, bits 23 and 19:16 set",
-        12,
-        0x008F_0001,
-        0x0300_050F,
-        0x9000_0010,
-        0,
-    );
+    say(b"Length 1, first 0000");
+    show(12, 0x0000_0001, 0x0300_0500, 0x9000_0010, 0);
+    say(b"Length 1, last 0001");
+    show(12, 0x0000_0001, 0x0300_051F, 0x9000_0010, 0);
+    say(b"Length 1, first 0101");
+    show(12, 0x0000_0001, 0x0300_0505, 0x9000_0010, 0);
+    say(b"Length 2, first 0000");
+    show(12, 0x0000_0002, 0x0300_05F0, 0x9000_0010, 0);
+    say(b"Length 2, last 0000");
+    show(12, 0x0000_0002, 0x0300_050F, 0x9000_0010, 0);
+    say(b"Length 1, first 0000, bit 16 set");
+    show(12, 0x0001_0001, 0x0300_0500, 0x9000_0010, 0);
+    say(b"Length 1, first 1111, bits 23 and 19:16 set");
+    show(12, 0x008F_0001, 0x0300_050F, 0x9000_0010, 0);
 }
 
 // "Request form": contiguity.
 fn contiguity() {
-    show(
-        b"Length 2 on a multiple of 8, gaps",
-        12,
-        0x0000_0002,
-        0x0300_0595,
-        0x9000_0018,
-        0,
-    );
-    show(
-        b"Length 2 off a multiple of 8, gaps",
-        12,
-        0x0000_0002,
-        0x0300_0595,
-        0x9000_0014,
-        0,
-    );
-    show(
-        b"Length 2 off a multiple of 8, 1000 and 0001",
-        12,
-        0x0000_0002,
-        0x0300_0518,
-        0x9000_0014,
-        0,
-    );
-    show(
-        b"Length 3, first 0111",
-        12,
-        0x0000_0003,
-        0x0300_05F7,
-        0x9000_0018,
-        0,
-    );
-    show(
-        b"Length 3, last 1110",
-        12,
-        0x0000_0003,
-        0x0300_05EF,
-        0x9000_0018,
-        0,
-    );
-    show(
-        b"Length 2, multiple of 8 but for the low bits",
-        12,
-        0x0000_0002,
-        0x0300_0595,
-        0x9000_001B,
-        0,
-    );
+    say(b"Length 2 on a multiple of 8, gaps");
+    show(12, 0x0000_0002, 0x0300_0595, 0x9000_0018, 0);
+    say(b"Length 2 off a multiple of 8, gaps");
+    show(12, 0x0000_0002, 0x0300_0595, 0x9000_0014, 0);
+    say(b"Length 2 off a multiple of 8, 1000 and 0001");
+    show(12, 0x0000_0002, 0x0300_0518, 0x9000_0014, 0);
+    say(b"Length 3, first 0111");
+    show(12, 0x0000_0003, 0x0300_05F7, 0x9000_0018, 0);
+    say(b"Length 3, last 1110");
+    show(12, 0x0000_0003, 0x0300_05EF, 0x9000_0018, 0);
+    say(b"Length 2, multiple of 8 but for the low bits");
+    show(12, 0x0000_0002, 0x0300_0595, 0x9000_001B, 0);
 }
 
 // "Request form": the 4 KiB page and the high word.
 fn pages() {
-    show(
-        b"last dword of a page",
-        12,
-        0x0000_0001,
-        0x0300_050F,
-        0x900F_FFFC,
-        0,
-    );
-    show(
-        b"one dword past a page",
-        12,
-        0x0000_0002,
-        0x0300_05FF,
-        0x900F_FFFC,
-        0,
-    );
-    show(
-        b"a whole page",
-        12,
-        0x0000_0000,
-        0x0300_05FF,
-        0x9000_0000,
-        0,
-    );
-    show(
-        b"a whole page, one dword late",
-        12,
-        0x0000_0000,
-        0x0300_05FF,
-        0x9000_0004,
-        0,
-    );
-    show(
-        b"64-bit read with a zero high word",
-        16,
-        0x2000_0001,
-        0x0300_050F,
-        0x0000_0000,
-        0x9000_0010,
-    );
-    show(
-        b"the same past a page",
-        16,
-        0x2000_0002,
-        0x0300_05FF,
-        0x0000_0000,
-        0x900F_FFFC,
-    );
-    show(
-        b"address with low bits 11",
-        12,
-        0x0000_0001,
-        0x0300_050F,
-        0x9000_0013,
-        0,
-    );
+    say(b"last dword of a page");
+    show(12, 0x0000_0001, 0x0300_050F, 0x900F_FFFC, 0);
+    say(b"one dword past a page");
+    show(12, 0x0000_0002, 0x0300_05FF, 0x900F_FFFC, 0);
+    say(b"a whole page");
+    show(12, 0x0000_0000, 0x0300_05FF, 0x9000_0000, 0);
+    say(b"a whole page, one dword late");
+    show(12, 0x0000_0000, 0x0300_05FF, 0x9000_0004, 0);
+    say(b"64-bit read with a zero high word");
+    show(16, 0x2000_0001, 0x0300_050F, 0x0000_0000, 0x9000_0010);
+    say(b"the same past a page");
+    show(16, 0x2000_0002, 0x0300_05FF, 0x0000_0000, 0x900F_FFFC);
+    say(b"address with low bits 11");
+    show(12, 0x0000_0001, 0x0300_050F, 0x9000_0013, 0);
 }
 
 fn main() {

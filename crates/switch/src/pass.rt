@@ -9,7 +9,7 @@ use crate::after;
 use crate::answer::Outcome;
 use crate::rule;
 
-// Passes a packet from partition `p`.
+// Passes a packet from partition `p`: the answer is the rule's, and Out and the logs are as that answer says.
 pub fn pass(
     p: u32,
     packet: &[u8],
@@ -19,8 +19,8 @@ pub fn pass(
     out: &mut [u8],
 ) -> Outcome
     ensures { λ r. ⌜ onPaper r ≡ passRule p (now (packet .entry)) (now (windows .entry)) (now (numbers .entry)) (length (now (logs .entry))) (length (now (out .entry))) ⌝ }
-    ensures { λ r. ⌜ now (out .exit) ≡ outAfter (passRule p (now (packet .entry)) (now (windows .entry)) (now (numbers .entry)) (length (now (logs .entry))) (length (now (out .entry)))) (now (packet .entry)) (now (out .entry)) ⌝ }
-    ensures { λ r. ⌜ now (logs .exit) ≡ logsAfter (passRule p (now (packet .entry)) (now (windows .entry)) (now (numbers .entry)) (length (now (logs .entry))) (length (now (out .entry)))) p (now (packet .entry)) (now (logs .entry)) ⌝ }
+    ensures { λ r. ⌜ now (out .exit) ≡ outAfter (onPaper r) (now (packet .entry)) (now (out .entry)) ⌝ }
+    ensures { λ r. ⌜ now (logs .exit) ≡ logsAfter (onPaper r) p (now (packet .entry)) (now (logs .entry)) ⌝ }
     ensures { λ r. ⌜ now (numbers .exit) ≡ now (numbers .entry) ⌝ }
 {
     let outcome = rule::decide(p, packet, windows, numbers, logs.len(), out.len());

@@ -1,11 +1,11 @@
--- The decision is the rule's; Out and the logs are what the definitions make of it. Assumes nothing.
+-- The decision is the rule's; Out and the logs are what the definitions make of it, and the log's row is the sender's. Assumes nothing.
 use borrow.Author.Needs.{needs}
 use Prim.Native.Nat.{_%_}
-use mathlib.Core.Path.{refl, ap, _∙_}
+use mathlib.Core.Path.{refl, ap, sym, _∙_}
 use denote.Ref.{now}
 use lib.ListN.{length}
 use Rattle.switch.specs.Answer.{Answer}
-use Rattle.switch.specs.After.{outAfter, logsAfter}
+use Rattle.switch.specs.After.{logsAfter}
 use Rattle.switch.proofs.Laws.Sender.{sender}
 use Rattle.switch.proofs.pass.pass.Statement.{statement}
 use Rattle.switch.proofs.pass.pass.Tie as tie
@@ -37,9 +37,12 @@ returns c =
     let e = c .before .before .before .before .before .before .before .before .decide .ensures in (
       e,
       (
-        (c .before .before .before .before .before .before .write-out .ensures ∙ ap (λ (r : Answer). outAfter r (now (a .packet)) (now (a .out))) e),
+        c .before .before .before .before .before .before .write-out .ensures,
         (
-          (c .before .before .write-log .ensures ∙ ap (λ (r : Answer). logsAfter r (a .p % 256) (now (a .packet)) (now (a .logs))) e ∙ sender (a .p) (now (a .packet)) (now (a .windows)) (now (a .numbers)) (now (a .logs)) (length (now (a .out)))),
+          (c .before .before .write-log .ensures
+              ∙ ap (λ (r : Answer). logsAfter r (a .p % 256) (now (a .packet)) (now (a .logs))) e
+              ∙ sender (a .p) (now (a .packet)) (now (a .windows)) (now (a .numbers)) (now (a .logs)) (length (now (a .out)))
+              ∙ sym (ap (λ (r : Answer). logsAfter r (a .p) (now (a .packet)) (now (a .logs))) e)),
           refl,
         ),
       ),

@@ -1,0 +1,2 @@
+-- The demands as theorems.
+pub mod Laws
