@@ -1,0 +1,3 @@
+-- The cases, and what they witness.
+pub mod Cases
+pub mod Witness

@@ -1,0 +1,3 @@
+-- "The exam sheet: worked traffic", as data.
+pub mod Tables
+pub mod Cases
