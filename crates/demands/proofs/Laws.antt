@@ -1,6 +1,14 @@
--- A file for each demand, and two that they share.
+-- A file for each demand, and those that they share.
+pub mod Bytes
+pub mod CameOut
 pub mod Crossing
+pub mod Demand1
 pub mod Examination
+pub mod Forms
+pub mod Listed
+pub mod Logged
 pub mod NoConfusion
+pub mod Number
 pub mod Outgoing
 pub mod Return
+pub mod Settled

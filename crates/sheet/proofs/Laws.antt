@@ -1,3 +1,4 @@
 -- The cases, and what they witness.
 pub mod Cases
+pub mod Short
 pub mod Witness

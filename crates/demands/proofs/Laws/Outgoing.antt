@@ -1,5 +1,6 @@
 -- The number and the tag that a crossed request goes out with, as its header words say them, and the bounds they rest on.
--- A translated address fits 64 bits, a bus of an active partition eight, an index six; the rewriting's laws give the fields.
+-- A translated address fits 64 bits and keeps its low twelve, a bus of an active partition fits eight, an index six; the rewriting's
+-- laws give the fields.
 -- Assumes nothing; that the windows are words of 64 bits is a premise, which every slice of u64 meets.
 use Prim.Native.Nat.{ℕ, _+_, _%_, _^_, _≤_, _<_}
 use mathlib.Core.Path.{_≡_, sym, ap, _∙_, subst}
@@ -16,11 +17,11 @@ use Rattle.header.proofs.Laws.Rewrite.{renamed-requester, renamed-tag, readdres
 use Rattle.windows.specs.Row.{rowAt, rowOf}
 use Rattle.windows.specs.Look.{lowestSlot}
 use Rattle.windows.specs.declared.look.Translation.{Translation}
-use Rattle.windows.proofs.Laws.Row.{covered-fits}
+use Rattle.windows.proofs.Laws.Row.{covered-fits, covered-pages}
 use Rattle.windows.proofs.Laws.Look.{opened}
 use Rattle.numbers.specs.Buses.{busOf, isActive}
 use Rattle.switch.specs.declared.answer.Sent.{Sent}
-use Rattle.switch.specs.Rule.{mappedId}
+use Rattle.switch.specs.Rule.{busId, mappedId}
 use Rattle.demands.proofs.Laws.Crossing.{Through}
 
 -- a list of words of 64 bits, as a slice of u64 is
@@ -30,6 +31,10 @@ Words64 l = (i : ℕ) → getD l i 0 < 2 ^ 64
 -- the bus of an active partition
 pub bus-lt : (numbers : List ℕ) (p : ℕ) → isActive numbers p ≡ true → busOf numbers p < 256
 bus-lt numbers p e = ltb-true (busOf numbers p) 256 e
+
+-- a bus's ID is of 16 bits
+pub bus-id-lt : (bus : ℕ) → bus < 256 → busId bus < 2 ^ 16
+bus-id-lt bus l = omega arith
 
 -- a number that a request goes out under is of 16 bits
 pub mapped-lt : (bus i : ℕ) → bus < 256 → i < 64 → mappedId bus i < 2 ^ 16
@@ -51,8 +56,14 @@ module _ (p : ℕ) (h : Header) (windows numbers : List ℕ) (x : Sent) (k : p �
       let s = lowestSlot windows p (address h) in
       subst (λ (u : Translation). u .address < 2 ^ 64) (sym (o .2)) (covered-fits p (address h) (rowOf windows p s) (w (rowAt p s + 1)) (o .1) .1)
 
+  -- and keeps its low twelve bits
+  pub translation-pages : t .translation .address % 2 ^ 12 ≡ address h % 2 ^ 12
+  translation-pages =
+      let o = opened windows p (address h) (t .translation) (t .looked) in
+      ap (λ (u : Translation). u .address % 2 ^ 12) (o .2) ∙ covered-pages p (address h) (rowOf windows p (lowestSlot windows p (address h))) (o .1)
+
   -- the number that it goes out under is of 16 bits
-  number-lt : mappedId (busOf numbers (t .translation .destination)) (t .index) < 2 ^ 16
+  pub number-lt : mappedId (busOf numbers (t .translation .destination)) (t .index) < 2 ^ 16
   number-lt = mapped-lt (busOf numbers (t .translation .destination)) (t .index) (bus-lt numbers (t .translation .destination) (t .reached)) index-lt
 
   -- the requester ID of the record is the number of bus and index

@@ -1,26 +1,29 @@
--- Demand 3, the return: where a request crossed from p into q, a completion from q that bears the number and the tag it went out with
--- crosses back to p, with the requester ID and the tag of the request; in any later state in which the call is right, the entry and
--- the buses of p and q are as they were, and p has some row in force with destination q.
--- The number names bus and index, the index the entry and its owner, and none of the completion's tests fails.
--- Assumes nothing; that the windows are words of 64 bits is a premise, which every slice of u64 meets.
-use Prim.Native.Nat.{ℕ, _+_, _*_, _/_, _%_, _^_, _<_}
-use mathlib.Core.Path.{_≡_, refl, sym, ap, _∙_}
-use mathlib.Core.Bool.{true, false, not}
+-- Demand 3, the return: where a request passed and came out in another partition, a completion from there that bears the number and
+-- the tag that it came out with comes back to its sender, under the sender's own number and tag; in any later state in which the call
+-- is right, the entry and both buses are as they were, and the sender has some row in force to there.
+-- The number names bus and index, the index the entry and its owner, and none of the completion's tests fails; so it crosses, comes
+-- out whole, and its bytes are those of a returned completion. Assumes nothing.
+use Prim.Native.Nat.{ℕ, zero, suc, _+_, _*_, _/_, _%_, _^_, _≤_, _<_}
+use mathlib.Core.Path.{_≡_, refl, sym, ap, _∙_, subst}
+use mathlib.Core.Bool.{Bool, true, false, not, true≢false}
 use mathlib.Core.List.{List}
 use native.Mathlib.Omega.{arith}
-use borrow.Author.Tests.{eq-eqb, ne-eqb}
+use borrow.Author.Tests.{eq-eqb, ne-eqb, lt-ltb, eqb-true, ltb-false, not-false}
 use lib.Dec.{eqb, ltb}
-use lib.ListN.{length, getD}
+use lib.ListN.{length}
 use Rattle.header.specs.Words.{headerOf}
-use Rattle.header.specs.Fields.{isPoisoned, requesterId, tag, address, completionRequesterId, completionTag}
+use Rattle.header.specs.Fields.{totalBytes, isPoisoned, requesterId, address, completionRequesterId, completionTag}
 use Rattle.header.specs.Rewrite.{returned}
 use Rattle.header.proofs.Laws.Pick.{hit, pass}
 use Rattle.header.proofs.Laws.Join.{both}
 use Rattle.header.proofs.Laws.Field.{field-lt}
 use Rattle.header.proofs.Laws.Rewrite.{returned-requester, returned-tag}
 use Rattle.tlp.specs.declared.form.Packet.{Packet}
-use Rattle.windows.specs.Row.{rowOf, exponent, inForce, spans}
-use Rattle.windows.specs.Look.{lowestSlot, lookUp, reaches}
+use Rattle.tlp.proofs.Laws.Form.{inverted-completion}
+use Rattle.tables.specs.Scan.{first}
+use Rattle.tables.proofs.Laws.Scan.{found, missed}
+use Rattle.windows.specs.Row.{rowOf, exponent, inForce, spans, leads}
+use Rattle.windows.specs.Look.{lowestSlot, lookUp, slotLeads, leadingSlot, reaches}
 use Rattle.windows.specs.declared.look.Translation.{Translation}
 use Rattle.windows.specs.declared.look.Look.the-variants.{Open}
 use Rattle.windows.proofs.Laws.Row.{force}
@@ -32,8 +35,14 @@ use Rattle.numbers.specs.declared.entries.Entry.the-variants.{Held}
 use Rattle.switch.specs.declared.answer.Sent.{Sent}
 use Rattle.switch.specs.Answer.{Answer, crossed, sentOf}
 use Rattle.switch.specs.Rule.{wrongCall, busId, mappedId, isPassable, toOwner, throughHeld, completionRule, packetRule, passRule}
-use Rattle.demands.proofs.Laws.Crossing.{IsRequest, IsCompletion, request-crossed}
-use Rattle.demands.proofs.Laws.Outgoing.{Words64, bus-lt, mapped-index, index-lt, sent-requester, sent-tag, sent-index}
+use Rattle.switch.specs.After.{logsAfter}
+use Rattle.demands.specs.Call.{Call, answerOf, Passed}
+use Rattle.demands.specs.Demand3.{Completes, Provided, ComesBack, Return}
+use Rattle.demands.proofs.Laws.Bytes.{returned-bytes}
+use Rattle.demands.proofs.Laws.CameOut.{whole-completion, came-out, came-out-whole}
+use Rattle.demands.proofs.Laws.Crossing.{IsCompletion}
+use Rattle.demands.proofs.Laws.Number.{request, number-out, index-out, tag-out}
+use Rattle.demands.proofs.Laws.Outgoing.{bus-lt, bus-id-lt, mapped-index, index-lt}
 
 -- an open look leads to another partition
 pub leads-away : (windows : List ℕ) (p a : ℕ) (t : Translation) → lookUp windows p a ≡ Open t → t .destination ≡ p → ⊥
@@ -75,50 +84,98 @@ completion-crosses q c windows numbers logs out i id owner call active k whole n
 owner-of : (p s i : ℕ) → s < 4 → i ≡ 4 * p + s → i / 4 ≡ p
 owner-of p s i l e = omega arith
 
--- a bus's ID is of 16 bits
-bus-id-lt : (bus : ℕ) → bus < 256 → busId bus < 2 ^ 16
-bus-id-lt bus l = omega arith
+-- a search stops before the end where the test holds at some place
+stops : (test : ℕ → Bool) (s n i : ℕ) → s ≤ i → i < s + n → test i ≡ true → first test s n < s + n
+stops test s zero i l h e = absurd (omega arith)
+stops test s (suc n) i l h e = by-test (test s) refl (λ k. stops test (suc s) n i k (omega arith) e)
+  where
+    by-test : (t : Bool) → test s ≡ t → (suc s ≤ i → first test (suc s) n < suc s + n) → first test s (suc n) < s + suc n
+    by-test true q r = omega (arith, found test s n q)
+    by-test false q r =
+        let other : s ≡ i → ⊥ = λ z. true≢false (sym e ∙ ap test (sym z) ∙ q) in
+        omega (arith, missed test s n q, r (omega arith))
 
-module _
-    -- a request that crossed from p
-    (p : ℕ) (s windows1 numbers1 : List ℕ) (logs1 out1 : ℕ) (x : Sent) (w : Words64 windows1) (r : IsRequest s)
-    (went : passRule p s windows1 numbers1 logs1 out1 ≡ crossed x)
-    -- a completion from where it went to, with its number and tag
-    (c windows numbers : List ℕ) (logs out : ℕ) (k : IsCompletion c) (whole : isPoisoned (headerOf c) ≡ false)
-    (same-id : completionRequesterId (headerOf c) ≡ requesterId (x .header)) (same-tag : completionTag (headerOf c) ≡ tag (x .header))
-    -- in a right call
-    (call : wrongCall (x .partition) (length windows) (length numbers) logs out ≡ false)
-    -- with the entry and the two buses as they were
-    (same-entry : getD numbers (requesterId (x .header) % 64) 0 ≡ getD numbers1 (requesterId (x .header) % 64) 0)
-    (same-own-bus : busOf numbers p ≡ busOf numbers1 p) (same-bus : busOf numbers (x .partition) ≡ busOf numbers1 (x .partition))
-    -- and some row in force from p to it
-    (row : reaches windows p (x .partition) ≡ true) where
-  -- crosses back to p, with the requester ID and the tag of the request
-  pub returns : (passRule (x .partition) c windows numbers logs out ≡ crossed (sentOf (returned (headerOf c) (requesterId (headerOf s)) (busId (busOf numbers p))) p))
-      × (completionRequesterId (returned (headerOf c) (requesterId (headerOf s)) (busId (busOf numbers p))) ≡ requesterId (headerOf s))
-      × (completionTag (returned (headerOf c) (requesterId (headerOf s)) (busId (busOf numbers p))) ≡ tag (headerOf s))
-  returns =
-      let f = request-crossed p s windows1 numbers1 logs1 out1 x r went in
-      let t = f .through in
+-- who has a row in force to another reaches it
+reaches-by : (windows : List ℕ) (p q s : ℕ) → s < 16 → leads p q (rowOf windows p s) ≡ true → reaches windows p q ≡ true
+reaches-by windows p q s l e = lt-ltb (leadingSlot windows p q) 16 (stops (slotLeads windows p q) 0 16 s (omega arith) (omega arith) e)
+
+module _ (a c : Call) (x : Sent) (p : Passed a x) (k : Completes a x c) (v : Provided a x c) where
+  -- the completion is sent from where the request went
+  there : c .sender ≡ request a x p .through .translation .destination
+  there = k .from-there ∙ ap (λ (y : Sent). y .partition) (request a x p .through .sent)
+
+  -- whose bus is as it was
+  same-bus : busOf (c .numbers) (c .sender) ≡ busOf (a .numbers) (request a x p .through .translation .destination)
+  same-bus =
+      ap (busOf (c .numbers)) (k .from-there) ∙ v .bus
+      ∙ ap (λ (y : Sent). busOf (a .numbers) (y .partition)) (request a x p .through .sent)
+
+  -- the number that it bears names that bus and the request's entry
+  number : completionRequesterId (headerOf (c .packet)) ≡ mappedId (busOf (c .numbers) (c .sender)) (request a x p .through .index)
+  number = k .that-number ∙ number-out a x p ∙ ap (λ (b : ℕ). mappedId b (request a x p .through .index)) (sym same-bus)
+
+  -- the entry still holds the requester's ID
+  held : entryAt (c .numbers) (request a x p .through .index) ≡ Held (requesterId (headerOf (a .packet)))
+  held =
+      subst (λ (i : ℕ). entryAt (c .numbers) i ≡ entryAt (a .numbers) i) (index-out a x p) (ap lookAt (v .entry))
+      ∙ request a x p .through .held
+
+  -- the request's sender is active still
+  active : isActive (c .numbers) (a .sender) ≡ true
+  active = ap (λ (b : ℕ). ltb b 256) (v .own-bus) ∙ request a x p .active
+
+  -- and so is the completion's
+  active-there : isActive (c .numbers) (c .sender) ≡ true
+  active-there = ap (λ (b : ℕ). ltb b 256) same-bus ∙ request a x p .through .reached
+
+  -- they differ, and the one reaches the other
+  returnable : isPassable (a .sender) (c .sender) (c .windows) (c .numbers) ≡ true
+  returnable =
+      let t = request a x p .through in
+      passable (a .sender) (c .sender) (c .windows) (c .numbers)
+      (λ e. leads-away (a .windows) (a .sender) (address (headerOf (a .packet))) (t .translation) (t .looked) (sym there ∙ sym e)) active
+      (ap (reaches (c .windows) (a .sender)) (k .from-there) ∙ reaches-by (c .windows) (a .sender) (x .partition) (v .slot) (v .slot-lt) (v .window))
+
+  -- the completion is one
+  form : IsCompletion (c .packet)
+  form = whole-completion (c .packet) (k .well-formed) (k .completion)
+
+  -- what it comes back with
+  abbrev back : Sent
+  back = sentOf (returned (headerOf (c .packet)) (requesterId (headerOf (a .packet))) (busId (busOf (c .numbers) (a .sender)))) (a .sender)
+
+  -- it crosses
+  crosses : answerOf c ≡ crossed back
+  crosses =
+      let t = request a x p .through in
+      completion-crosses (c .sender) (c .packet) (c .windows) (c .numbers) (length (c .logs)) (length (c .out)) (t .index)
+      (requesterId (headerOf (a .packet))) (a .sender) (k .right-call) active-there form (k .unpoisoned) number
+      (index-lt (a .sender) (headerOf (a .packet)) (a .windows) (a .numbers) x (request a x p .call .partition) (p .lent .words) t) held
+      (owner-of (a .sender) (t .slot) (t .index) (t .slot-lt) (t .index-is)) returnable
+
+  -- and comes back
+  comes-back : ComesBack a c
+  comes-back =
+      let s = c .packet in
       let h = headerOf s in
-      let low = f .call .partition in
-      let id = requesterId h in
-      let q : x .partition ≡ t .translation .destination = ap (λ (y : Sent). y .partition) (t .sent) in
-      let i : requesterId (x .header) % 64 ≡ t .index = sent-index p h windows1 numbers1 x low w t in
-      let held : entryAt numbers (t .index) ≡ Held id =
-      ap lookAt (ap (λ (n : ℕ). getD numbers n 0) (sym i) ∙ same-entry ∙ ap (λ (n : ℕ). getD numbers1 n 0) i) ∙ t .held in
-      let number : completionRequesterId (headerOf c) ≡ mappedId (busOf numbers (x .partition)) (t .index) =
-      same-id ∙ sent-requester p h windows1 numbers1 x low w t
-      ∙ ap (λ (n : ℕ). mappedId (busOf numbers1 n) (t .index)) (sym q)
-      ∙ ap (λ (b : ℕ). mappedId b (t .index)) (sym same-bus) in
-      let active : isActive numbers p ≡ true = ap (λ (b : ℕ). ltb b 256) same-own-bus ∙ f .active in
-      let reached : isActive numbers (x .partition) ≡ true =
-      ap (λ (b : ℕ). ltb b 256) same-bus ∙ ap (λ (n : ℕ). isActive numbers1 n) q ∙ t .reached in
-      let away : p ≡ x .partition → ⊥ = λ e. leads-away windows1 p (address h) (t .translation) (t .looked) (sym q ∙ sym e) in
-      let id-lt : id < 2 ^ 16 = field-lt 16 16 (h .w1) in
-      let bus-id : busId (busOf numbers p) < 2 ^ 16 = bus-id-lt (busOf numbers p) (bus-lt numbers p active) in (
-        completion-crosses (x .partition) c windows numbers logs out (t .index) id p call reached k whole number (index-lt p h windows1 numbers1 x low w t) held
-            (owner-of p (t .slot) (t .index) (t .slot-lt) (t .index-is)) (passable p (x .partition) windows numbers away active row),
-        returned-requester (headerOf c) id (busId (busOf numbers p)) id-lt bus-id,
-        returned-tag (headerOf c) id (busId (busOf numbers p)) id-lt bus-id ∙ same-tag ∙ sent-tag p h windows1 numbers1 x low w t,
-      )
+      let id = requesterId (headerOf (a .packet)) in
+      let completer = busId (busOf (c .numbers) (a .sender)) in
+      let id-lt : id < 2 ^ 16 = field-lt 16 16 (headerOf (a .packet) .w1) in
+      let bus-id : completer < 2 ^ 16 = bus-id-lt (busOf (c .numbers) (a .sender)) (bus-lt (c .numbers) (a .sender) active) in
+      let f = inverted-completion (length s) h h form .0 in
+      let whole = came-out-whole c back (k .lent) crosses in
+      record {
+        back = back;
+        crosses = crosses;
+        partition = refl;
+        whole = sym (eqb-true (length s) (totalBytes h) (not-false (eqb (length s) (totalBytes h)) (f .whole)));
+        bytes = came-out c back (k .lent) crosses ∙ returned-bytes s (k .lent .bytes) id completer (k .completion) (ltb-false (length s) 12 (f .long)) id-lt bus-id;
+        own-number = ap completionRequesterId (whole .header-is) ∙ returned-requester h id completer id-lt bus-id;
+        own-tag = ap completionTag (whole .header-is) ∙ returned-tag h id completer id-lt bus-id ∙ k .that-tag ∙ tag-out a x p;
+        beyond = whole .beyond;
+        logs = ap (λ (r : Answer). logsAfter r (c .sender) s (c .logs)) crosses;
+      }
+
+-- the demand's sentence
+pub returns : Return
+returns a c x = comes-back a c x

@@ -1,50 +1,88 @@
--- Demand 3 is not empty: A, passed from 1, and then B, passed from 0, meet every premise of the return, and B comes back to 1 under
--- A's own requester ID and tag. Each premise is computed on the sheet's tables. Assumes nothing.
-use Prim.Native.Nat.{ℕ, zero, suc, _<_, _^_}
-use mathlib.Core.Path.{_≡_, refl}
+-- Demand 3 is not empty: A, passed from 1, and then B, passed from 0, meet every premise of the return, over any two Outs that are long
+-- enough, and B comes back to 1 under A's own requester ID and tag. Each premise is computed on the sheet's tables, but for the number
+-- and the tag in Out: what came out whole has the words of A's answer. Assumes nothing.
+use Prim.Native.Nat.{ℕ, zero, suc, _≤_, _<_, _^_}
+use mathlib.Core.Path.{_≡_, refl, sym, ap}
 use mathlib.Core.Bool.{Bool, true, _&&_}
 use mathlib.Core.List.{List, [], _∷_}
-use mathlib.Core.Logic.{inl}
 use native.Mathlib.Omega.{arith}
-use borrow.Author.Tests.{ltb-true}
+use borrow.Author.Tests.{ltb-true, le-ltb}
 use lib.Dec.{ltb}
-use lib.ListN.{getD}
+use lib.ListN.{length, getD}
 use Rattle.header.specs.Pick.{pick}
-use Rattle.header.specs.Words.{wordAt, headerOf}
-use Rattle.header.specs.Fields.{requesterId, tag, completionRequesterId, completionTag}
-use Rattle.header.specs.Rewrite.{readdressed, returned}
+use Rattle.header.specs.Words.{wordAt}
+use Rattle.header.specs.Fields.{requesterId, tag}
+use Rattle.header.specs.Rewrite.{readdressed}
 use Rattle.header.proofs.Laws.Join.{both}
 use Rattle.tlp.specs.Form.{requestForm, formOf}
 use Rattle.tables.specs.Scan.{first}
 use Rattle.windows.specs.Row.{aligned, inForce, spans}
 use Rattle.windows.specs.Look.{lookUp}
 use Rattle.numbers.specs.Entries.{lookAt}
-use Rattle.numbers.specs.Buses.{busOf}
-use Rattle.switch.specs.Answer.{crossed, sentOf}
-use Rattle.switch.specs.Rule.{busId, refused, toDestination, requestRule, toOwner, completionRule, passRule}
+use Rattle.switch.specs.declared.answer.Sent.{Sent}
+use Rattle.switch.specs.Rule.{toDestination, requestRule, passRule}
+use Rattle.demands.specs.Call.{Call, Passed}
+use Rattle.demands.specs.Demand3.{Completes, ComesBack}
+use Rattle.demands.proofs.Laws.CameOut.{came-out-whole}
 use Rattle.demands.proofs.Laws.Return.{returns}
-use Rattle.sheet.specs.Tables.{windows, numbers}
-use Rattle.sheet.specs.Cases.{four, words, caseA, caseB}
+use Rattle.sheet.specs.Tables.{windows, numbers, logs}
+use Rattle.sheet.specs.Cases.{Case, four, words, caseA, caseB}
+use Rattle.sheet.proofs.Laws.Cases.{long-enough}
 
 -- every word of a list is below n, as a test
 abbrev allBelow : ℕ → List ℕ → Bool
 allBelow n [] = true
 allBelow n (x ∷ l) = ltb x n && allBelow n l
 
+-- so it is at every place, where none counts as 0
 below : (n : ℕ) (l : List ℕ) → allBelow n l ≡ true → 0 < n → (i : ℕ) → getD l i 0 < n
 below n [] e z i = z
 below n (x ∷ l) e z zero = ltb-true x n (both (ltb x n) (allBelow n l) e .0)
 below n (x ∷ l) e z (suc i) = below n l (both (ltb x n) (allBelow n l) e .1) z i
 
+-- the sheet's windows are words of 64 bits
 windows-fit : (i : ℕ) → getD windows i 0 < 2 ^ 64
 unfolding windows
 windows-fit i = below (2 ^ 64) windows refl (omega arith) i
 
--- B after A
-pub b-after-a : (passRule 0 (caseB .packet) windows numbers 96 4112 ≡ crossed (sentOf (returned (headerOf (caseB .packet)) (requesterId (headerOf (caseA .packet))) (busId (busOf numbers 1))) 1))
-    × (completionRequesterId (returned (headerOf (caseB .packet)) (requesterId (headerOf (caseA .packet))) (busId (busOf numbers 1))) ≡ requesterId (headerOf (caseA .packet)))
-    × (completionTag (returned (headerOf (caseB .packet)) (requesterId (headerOf (caseA .packet))) (busId (busOf numbers 1))) ≡ tag (headerOf (caseA .packet)))
-unfolding pick wordAt readdressed requestForm formOf first aligned inForce spans lookUp lookAt refused toDestination requestRule toOwner completionRule passRule windows numbers
-b-after-a =
-    returns 1 (caseA .packet) windows numbers 96 4112 (four (words 0x20000001 0x0146050F 0x00000001 0x40000010) 0 16) windows-fit (inl refl) refl
-    (caseB .packet) windows numbers 96 4112 refl refl refl refl refl refl refl refl refl
+-- a case as a call, on the sheet's tables and over some Out
+abbrev pub callOf : Case → List ℕ → Call
+callOf c out = record { sender = c .sender; packet = c .packet; windows = windows; numbers = numbers; logs = logs; out = out }
+
+-- what A comes out with
+abbrev sentA : Sent
+sentA = four (words 0x20000001 0x0146050F 0x00000001 0x40000010) 0 16
+
+-- A passes
+a-passed : (out : List ℕ) → 4112 ≤ length out → Passed (callOf caseA out) sentA
+unfolding pick wordAt readdressed requestForm formOf first aligned inForce spans lookUp lookAt toDestination requestRule passRule windows numbers logs
+a-passed out h =
+    record {
+      lent = record { bytes = below (2 ^ 8) (caseA .packet) refl (omega arith); words = windows-fit };
+      request = refl;
+      went = long-enough 1 (caseA .packet) windows numbers 96 (length out) h;
+    }
+
+-- B completes it
+b-completes : (o out : List ℕ) → 4112 ≤ length o → 4112 ≤ length out → Completes (callOf caseA o) sentA (callOf caseB out)
+unfolding pick wordAt formOf windows numbers logs
+b-completes o out g h =
+    let p = a-passed o g in
+    let e = came-out-whole (callOf caseA o) sentA (p .lent) (p .went) .header-is in
+    record {
+      lent = record { bytes = below (2 ^ 8) (caseB .packet) refl (omega arith); words = windows-fit };
+      from-there = refl;
+      completion = refl;
+      right-call = le-ltb (length out) 4112 h;
+      well-formed = refl;
+      unpoisoned = refl;
+      that-number = ap requesterId (sym e);
+      that-tag = ap tag (sym e);
+    }
+
+-- B after A, over any two Outs that are long enough
+pub b-after-a : (o out : List ℕ) → 4112 ≤ length o → 4112 ≤ length out → ComesBack (callOf caseA o) (callOf caseB out)
+unfolding aligned inForce windows
+b-after-a o out g h =
+    returns (callOf caseA o) (callOf caseB out) sentA (a-passed o g) (b-completes o out g h)
+    (record { entry = refl; own-bus = refl; bus = refl; slot = 0; slot-lt = omega arith; window = refl })

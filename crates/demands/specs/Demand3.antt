@@ -1,0 +1,99 @@
+-- Demand 3, of the bytes in Out: what came out there is what the far side reads.
+use Prim.Native.Nat.{ℕ, _/_, _%_, _<_}
+use mathlib.Core.Bool.{true, false}
+use mathlib.Core.Path.{_≡_}
+use mathlib.Core.List.{List, [], _∷_, _++_}
+use lib.ListN.{length, getD, take, drop}
+use Rattle.header.specs.Kind.{isCompletion}
+use Rattle.header.specs.Words.{headerOf}
+use Rattle.header.specs.Fields.{kind, isPoisoned, requesterId, tag, completionRequesterId, completionTag}
+use Rattle.tlp.specs.Form.{packetOf, packetNumber}
+use Rattle.tlp.specs.Write.{packetList}
+use Rattle.windows.specs.Row.{rowOf, leads}
+use Rattle.numbers.specs.Buses.{busOf}
+use Rattle.switch.specs.declared.answer.Sent.{Sent}
+use Rattle.switch.specs.Answer.{crossed}
+use Rattle.switch.specs.Rule.{wrongCall, busId}
+use Rattle.switch.specs.After.{dataOf}
+use Rattle.demands.specs.Call.{Call, answerOf, outOf, logsOf, cameOut, Lent, Passed}
+
+-- the requester number that a request came out with
+abbrev pub numberOut : Call → Sent → ℕ
+numberOut c x = requesterId (headerOf (cameOut c x))
+
+-- the tag that it came out with
+abbrev pub tagOut : Call → Sent → ℕ
+tagOut c x = tag (headerOf (cameOut c x))
+
+-- what came out is the record's header and the packet's data, as long as the record says; read again it has the record's header words
+-- and breaks no rule of form; and Out beyond it is as it was
+pub record CameOutWhole (c : Call) (x : Sent) : Type 0 where
+  pub bytes : cameOut c x ≡ packetList (x .header) (dataOf (c .packet))
+  pub length-is : length (cameOut c x) ≡ x .length
+  pub header-is : headerOf (cameOut c x) ≡ x .header
+  pub well-formed : packetNumber (packetOf (cameOut c x)) ≡ 0
+  pub beyond : drop (x .length) (outOf c) ≡ drop (x .length) (c .out)
+
+-- so it is of everything that crosses
+abbrev pub AllCameOutWhole : Type 0
+AllCameOutWhole = (c : Call) (x : Sent) → Lent c → answerOf c ≡ crossed x → CameOutWhole c x
+
+-- "while the mapping entries stood unchanged"
+abbrev pub SameEntries : Call → Call → Type 0
+SameEntries a b = (i : ℕ) → i < 64 → getD (a .numbers) i 0 ≡ getD (b .numbers) i 0
+
+-- "sent from one partition by one requester with one tag"
+pub record OneSender (a b : Call) : Type 0 where
+  pub one-partition : a .sender ≡ b .sender
+  pub one-requester : requesterId (headerOf (a .packet)) ≡ requesterId (headerOf (b .packet))
+  pub one-tag : tag (headerOf (a .packet)) ≡ tag (headerOf (b .packet))
+
+-- "two requests that passed into the same partition .. If they came out with equal requester number and tag, they were sent" by one
+abbrev pub NoConfusion : Type 0
+NoConfusion =
+    (a b : Call) (x y : Sent) → Passed a x → Passed b y → x .partition ≡ y .partition → SameEntries a b
+    → numberOut a x ≡ numberOut b y → tagOut a x ≡ tagOut b y → OneSender a b
+
+-- "a well-formed, unpoisoned completion of a carried kind, sent from there with that number and tag": 1, 3 and 4 are not given
+pub record Completes (a : Call) (x : Sent) (c : Call) : Type 0 where
+  pub lent : Lent c
+  pub from-there : c .sender ≡ x .partition
+  pub completion : isCompletion (kind (headerOf (c .packet))) ≡ true
+  pub right-call : wrongCall (c .sender) (length (c .windows)) (length (c .numbers)) (length (c .logs)) (length (c .out)) ≡ false
+  pub well-formed : packetNumber (packetOf (c .packet)) ≡ 0
+  pub unpoisoned : isPoisoned (headerOf (c .packet)) ≡ false
+  pub that-number : completionRequesterId (headerOf (c .packet)) ≡ numberOut a x
+  pub that-tag : completionTag (headerOf (c .packet)) ≡ tagOut a x
+
+-- "the entry and both bus numbers are as they were and some window of the sender's to there is in force"
+pub record Provided (a : Call) (x : Sent) (c : Call) : Type 0 where
+  pub entry : getD (c .numbers) (numberOut a x % 64) 0 ≡ getD (a .numbers) (numberOut a x % 64) 0
+  pub own-bus : busOf (c .numbers) (a .sender) ≡ busOf (a .numbers) (a .sender)
+  pub bus : busOf (c .numbers) (x .partition) ≡ busOf (a .numbers) (x .partition)
+  pub slot : ℕ
+  pub slot-lt : slot < 16
+  pub window : leads (a .sender) (x .partition) (rowOf (c .windows) (a .sender) slot) ≡ true
+
+-- an ID's two bytes
+abbrev pub idBytes : ℕ → List ℕ
+idBytes id = id / 256 ∷ id % 256 ∷ []
+
+-- a completion's bytes with another completer (4 and 5) and another requester (8 and 9), and every other byte kept
+abbrev pub returnedBytes : List ℕ → ℕ → ℕ → List ℕ
+returnedBytes s completer requester = take 4 s ++ (idBytes completer ++ (take 2 (drop 6 s) ++ (idBytes requester ++ drop 10 s)))
+
+-- "comes out in the sender's partition under the sender's own number and tag": Out holds exactly that packet, and no log changes
+pub record ComesBack (a c : Call) : Type 0 where
+  pub back : Sent
+  pub crosses : answerOf c ≡ crossed back
+  pub partition : back .partition ≡ a .sender
+  pub whole : back .length ≡ length (c .packet)
+  pub bytes : cameOut c back ≡ returnedBytes (c .packet) (busId (busOf (c .numbers) (a .sender))) (requesterId (headerOf (a .packet)))
+  pub own-number : completionRequesterId (headerOf (cameOut c back)) ≡ requesterId (headerOf (a .packet))
+  pub own-tag : completionTag (headerOf (cameOut c back)) ≡ tag (headerOf (a .packet))
+  pub beyond : drop (back .length) (outOf c) ≡ drop (back .length) (c .out)
+  pub logs : logsOf c ≡ c .logs
+
+-- the return
+abbrev pub Return : Type 0
+Return = (a c : Call) (x : Sent) → Passed a x → Completes a x c → Provided a x c → ComesBack a c

@@ -1,0 +1,2 @@
+-- What the programs over the exam sheet share.
+pub mod Hex
