@@ -13,7 +13,7 @@ awk 'BEGIN { RS = "`" } NR % 2 == 0 && /^[a-z_]+\/(specs|proofs|src)\/[^:]+:[^ ]
 declared() { # FILE NAME
     [ -f "$1" ] && NAME=$2 awk '
         { sub(/^[ \t]+/, "") }
-        { while (sub(/^(unfoldable|abbrev|pub|pub\(crate\)) /, "")) { } }
+        { while (sub(/^(unfoldable|abbrev|pub|pub\(crate\)|extern "C") /, "")) { } }
         {
             split($0, word, /[ (:<]+/)
             k = (word[1] ~ /^(fn|const|record|data|ruleset)$/) ? 2 : 1

@@ -1,0 +1,4 @@
+-- Laws of the calls for C.
+pub mod Call
+pub mod Eight
+pub mod Small

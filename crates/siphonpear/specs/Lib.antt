@@ -1,0 +1,2 @@
+-- What the calls for C give back.
+pub mod Abi

@@ -1,0 +1,133 @@
+/* A lesson over the switch, from C: a window is open for student 15, a read crosses and its completion comes back; then an
+   examination, where the same read is refused and logged. Prints each step; ends with 1 if a call returned another number. */
+#include <stdint.h>
+#include <stdio.h>
+#include <string.h>
+
+#include "siphonpear.h"
+
+enum { TEACHER = 0, STUDENT = 15 };
+
+static uint64_t windows[SIPHON_WINDOWS];
+static uint32_t numbers[SIPHON_NUMBERS];
+static uint32_t logs[SIPHON_LOGS];
+static uint8_t out[SIPHON_OUT];
+static uint32_t answer[SIPHON_ANSWER];
+static int wrong = 0;
+
+/* What a call returned, and what it must return. */
+static void must(const char *call, uint32_t returned, uint32_t wanted)
+{
+    if (returned != wanted) {
+        printf("%s returned %lu, and must return %lu\n", call, (unsigned long)returned, (unsigned long)wanted);
+        wrong = 1;
+    }
+}
+
+/* Words in hex, and the line's end. */
+static void print_words(const uint32_t *words, size_t count)
+{
+    size_t i;
+    for (i = 0; i < count; i++) {
+        printf(" %08lX", (unsigned long)words[i]);
+    }
+    printf("\n");
+}
+
+/* Words as the bytes of a packet: the highest byte first. */
+static void to_bytes(const uint32_t *words, size_t count, uint8_t *bytes)
+{
+    size_t i;
+    for (i = 0; i < 4 * count; i++) {
+        bytes[i] = (uint8_t)(words[i / 4] >> (24 - 8 * (i % 4)));
+    }
+}
+
+/* The bytes that came out, as words. */
+static void print_out(size_t length)
+{
+    uint32_t word;
+    size_t i;
+    for (i = 0; i < length; i += 4) {
+        word = (uint32_t)out[i] << 24 | (uint32_t)out[i + 1] << 16 | (uint32_t)out[i + 2] << 8 | out[i + 3];
+        printf(" %08lX", (unsigned long)word);
+    }
+    printf("\n");
+}
+
+/* Passes a packet of up to four words, and prints what became of it. */
+static void pass(const char *name, uint32_t from, const uint32_t *words, size_t count, uint32_t wanted)
+{
+    uint8_t packet[16];
+    uint32_t number;
+    to_bytes(words, count, packet);
+    printf("%s, from %lu:", name, (unsigned long)from);
+    print_words(words, count);
+    number = siphon_pass(from, packet, 4 * count, windows, SIPHON_WINDOWS, numbers, SIPHON_NUMBERS, logs, SIPHON_LOGS, out,
+                         SIPHON_OUT, answer, SIPHON_ANSWER);
+    must("siphon_pass", number, wanted);
+    if (answer[0] == SIPHON_DROPPED) {
+        printf("  dropped by %lu\n", (unsigned long)number);
+        return;
+    }
+    if (answer[0] == SIPHON_ANSWERED) {
+        printf("  refused by %lu and answered,", (unsigned long)number);
+    } else {
+        printf("  crossed,");
+    }
+    printf(" %lu bytes in %lu:", (unsigned long)answer[2], (unsigned long)answer[1]);
+    print_out(answer[2]);
+}
+
+/* The row of a partition's log. */
+static void print_log(uint32_t p)
+{
+    const uint32_t *row = logs + 6 * p;
+    if (row[0] == 0) {
+        printf("log of %lu: no error\n", (unsigned long)p);
+        return;
+    }
+    printf("log of %lu: status %08lX, first error %lu,", (unsigned long)p, (unsigned long)row[0], (unsigned long)row[1]);
+    print_words(row + 2, 4);
+}
+
+/* Empty tables, and every partition on a bus of its own. */
+static void begin(void)
+{
+    uint32_t p;
+    memset(windows, 0, sizeof windows);
+    memset(numbers, 0, sizeof numbers);
+    memset(logs, 0, sizeof logs);
+    memset(out, 0, sizeof out);
+    for (p = 0; p < 16; p++) {
+        must("siphon_set_bus", siphon_set_bus(p, p + 1, numbers, SIPHON_NUMBERS), SIPHON_DONE);
+    }
+    must("siphon_set_entry", siphon_set_entry(STUDENT, 0, 0x0300, numbers, SIPHON_NUMBERS), SIPHON_DONE);
+}
+
+int main(void)
+{
+    static const uint32_t read[] = {0x00000001, 0x0300050F, 0x90000010};
+    static const uint32_t completion[] = {0x4A000001, 0x01000004, 0x017C0510, 0x00000037};
+    uint32_t number;
+
+    begin();
+    printf("A class: the window of student 15 is open.\n");
+    number = siphon_set_window(STUDENT, 0, 0x90000000, 0x140000000, 20, TEACHER, windows, SIPHON_WINDOWS);
+    must("siphon_set_window", number, SIPHON_DONE);
+    pass("a read", STUDENT, read, 3, SIPHON_DONE);
+    pass("its completion", TEACHER, completion, 4, SIPHON_DONE);
+    print_log(STUDENT);
+
+    printf("An examination: the window is shut.\n");
+    must("siphon_empty_window", siphon_empty_window(STUDENT, 0, windows, SIPHON_WINDOWS), SIPHON_DONE);
+    pass("the same read", STUDENT, read, 3, SIPHON_NO_WINDOW);
+    pass("the same completion", TEACHER, completion, 4, SIPHON_NOT_PASSABLE);
+    print_log(STUDENT);
+    print_log(TEACHER);
+
+    printf("Afterwards: the log is cleared.\n");
+    must("siphon_clear_log", siphon_clear_log(STUDENT, 0xFFFFFFFF, logs, SIPHON_LOGS), SIPHON_DONE);
+    print_log(STUDENT);
+    return wrong;
+}

@@ -1,0 +1,123 @@
+/* Each call of include/siphonpear.h, done and refused, from C: what it returns and which words it writes, and that a buffer is
+   left alone beyond what is written. tests/c_example.sh builds and runs it; the last line is 'N passed, M failed'. */
+#include <stdint.h>
+#include <stdio.h>
+#include <string.h>
+
+#include "siphonpear.h"
+
+static uint64_t windows[SIPHON_WINDOWS];
+static uint32_t numbers[SIPHON_NUMBERS];
+static uint32_t logs[SIPHON_LOGS];
+static uint8_t out[SIPHON_OUT + 1];
+static uint32_t answer[SIPHON_ANSWER + 2];
+static int passed = 0, failed = 0;
+
+static void expect(const char *name, int holds)
+{
+    if (holds) {
+        passed++;
+    } else {
+        failed++;
+        printf("FAILED: %s\n", name);
+    }
+}
+
+/* The logs, the answer from one of its words on, and Out from one of its bytes on, are all this byte. */
+static int all_are(int byte, size_t answer_from, size_t out_from)
+{
+    const unsigned char *of_logs = (const unsigned char *)logs, *of_answer = (const unsigned char *)answer;
+    size_t i;
+    for (i = out_from; i < sizeof out; i++) {
+        if (out[i] != byte) return 0;
+    }
+    for (i = 0; i < sizeof logs; i++) {
+        if (of_logs[i] != byte) return 0;
+    }
+    for (i = 4 * answer_from; i < sizeof answer; i++) {
+        if (of_answer[i] != byte) return 0;
+    }
+    return 1;
+}
+
+/* The first eight words of the answer. */
+static int answer_is(const uint32_t *words)
+{
+    size_t i;
+    for (i = 0; i < SIPHON_ANSWER; i++) {
+        if (answer[i] != words[i]) return 0;
+    }
+    return 1;
+}
+
+static uint32_t pass(uint32_t p, const uint8_t *packet, size_t length, size_t out_length, size_t answer_length)
+{
+    memset(logs, 0xAA, sizeof logs);
+    memset(out, 0xAA, sizeof out);
+    memset(answer, 0xAA, sizeof answer);
+    return siphon_pass(p, packet, length, windows, SIPHON_WINDOWS, numbers, SIPHON_NUMBERS, logs, SIPHON_LOGS, out, out_length,
+                       answer, answer_length);
+}
+
+static void window_calls(void)
+{
+    uint64_t *row = windows + 48;
+    expect("a window is set", siphon_set_window(1, 0, 0x90000000, 0x140000000, 20, 0, windows, SIPHON_WINDOWS) == SIPHON_DONE);
+    expect("its row", row[0] == 0x90000000 && row[1] == 0x140000000 && row[2] == 0x1014);
+    expect("a slot too large", siphon_set_window(1, 16, 0, 0, 12, 0, windows, SIPHON_WINDOWS) == SIPHON_WRONG_CALL);
+    expect("a table too short", siphon_set_window(1, 1, 0, 0, 12, 0, windows, SIPHON_WINDOWS - 1) == SIPHON_WRONG_CALL);
+    expect("k too small", siphon_set_window(1, 1, 0, 0, 11, 0, windows, SIPHON_WINDOWS) == SIPHON_WINDOW_VALUES);
+    expect("an overlap", siphon_set_window(1, 1, 0x900FF000, 0, 12, 0, windows, SIPHON_WINDOWS) == SIPHON_OVERLAP);
+    expect("the next row is as it was", row[3] == 0 && row[4] == 0 && row[5] == 0);
+    expect("another is set", siphon_set_window(1, 1, 0xA0000000, 0, 12, 3, windows, SIPHON_WINDOWS) == SIPHON_DONE);
+    expect("and emptied", siphon_empty_window(1, 1, windows, SIPHON_WINDOWS) == SIPHON_DONE && row[3] == 0 && row[5] == 0);
+    expect("a partition too large", siphon_empty_window(16, 0, windows, SIPHON_WINDOWS) == SIPHON_WRONG_CALL);
+}
+
+static void number_calls(void)
+{
+    expect("an entry is set", siphon_set_entry(1, 2, 0x0300, numbers, SIPHON_NUMBERS) == SIPHON_DONE && numbers[6] == 0x10300);
+    expect("a repetition", siphon_set_entry(1, 3, 0x0300, numbers, SIPHON_NUMBERS) == SIPHON_REPETITION && numbers[7] == 0);
+    expect("another entry", siphon_set_entry(1, 3, 0xFFFF, numbers, SIPHON_NUMBERS) == SIPHON_DONE && numbers[7] == 0x1FFFF);
+    expect("it is freed", siphon_free_entry(1, 3, numbers, SIPHON_NUMBERS) == SIPHON_DONE && numbers[7] == 0);
+    expect("an entry slot too large", siphon_free_entry(1, 4, numbers, SIPHON_NUMBERS) == SIPHON_WRONG_CALL);
+    expect("a bus", siphon_set_bus(0, 1, numbers, SIPHON_NUMBERS) == SIPHON_DONE && numbers[64] == 1);
+    expect("another", siphon_set_bus(1, 2, numbers, SIPHON_NUMBERS) == SIPHON_DONE && numbers[65] == 2);
+    expect("a bus too large", siphon_set_bus(1, 256, numbers, SIPHON_NUMBERS) == SIPHON_WRONG_CALL && numbers[65] == 2);
+    expect("inactive", siphon_make_inactive(3, numbers, SIPHON_NUMBERS) == SIPHON_DONE && numbers[67] == 256);
+    expect("numbers too long", siphon_make_inactive(3, numbers, SIPHON_NUMBERS + 1) == SIPHON_WRONG_CALL);
+}
+
+static void passing(void)
+{
+    static const uint8_t read[] = {0, 0, 0, 1, 3, 0, 5, 0x0F, 0x90, 0, 0, 0x10};
+    static const uint8_t far_read[] = {0, 0, 0, 1, 3, 0, 5, 0x0F, 0xA0, 0, 0, 0x10};
+    static const uint32_t crossed[] = {SIPHON_CROSSED, 0, 16, 4, 0x20000001, 0x0146050F, 0x00000001, 0x40000010};
+    static const uint32_t answered[] = {SIPHON_ANSWERED, 1, 12, 3, 0x0A000000, 0x02002004, 0x03000510, 0};
+    static const uint32_t dropped[] = {SIPHON_DROPPED, 0, 0, 0, 0, 0, 0, 0};
+    expect("a read crosses", pass(1, read, 12, sizeof out, 10) == 0);
+    expect("its answer", answer_is(crossed));
+    expect("its bytes", out[0] == 0x20 && out[4] == 0x01 && out[5] == 0x46 && out[12] == 0x40 && out[15] == 0x10);
+    expect("beyond them nothing changes", all_are(0xAA, 8, 16));
+    expect("a read without a window is answered", pass(1, far_read, 12, sizeof out, 10) == SIPHON_NO_WINDOW);
+    expect("by the eight words", answer_is(answered));
+    expect("its bit is set in the sender's status", logs[6] == (0xAAAAAAAA | 1u << SIPHON_LOG_UNSUPPORTED));
+    expect("and in no other row", logs[5] == 0xAAAAAAAA && logs[12] == 0xAAAAAAAA);
+    expect("an inactive sender", pass(3, read, 12, sizeof out, 10) == SIPHON_SENDER_INACTIVE && answer_is(dropped) && all_are(0xAA, 8, 0));
+    expect("no such sender", pass(16, read, 12, sizeof out, 10) == SIPHON_WRONG_CALL && answer_is(dropped) && all_are(0xAA, 8, 0));
+    expect("a short Out", pass(1, read, 12, SIPHON_OUT - 1, 8) == SIPHON_WRONG_CALL && answer_is(dropped) && all_are(0xAA, 8, 0));
+    expect("a short answer", pass(1, read, 12, sizeof out, 7) == SIPHON_WRONG_CALL && all_are(0xAA, 0, 0));
+    expect("no packet", pass(1, 0, 0, SIPHON_OUT, 8) == SIPHON_FORM && answer_is(dropped));
+}
+
+int main(void)
+{
+    window_calls();
+    number_calls();
+    passing();
+    logs[6] = 0x00101000;
+    expect("a log is cleared", siphon_clear_log(1, 0x00100000, logs, SIPHON_LOGS) == SIPHON_DONE && logs[6] == 0x00001000);
+    expect("logs too short", siphon_clear_log(1, 0x00001000, logs, SIPHON_LOGS - 1) == SIPHON_WRONG_CALL && logs[6] == 0x00001000);
+    printf("%d passed, %d failed\n", passed, failed);
+    return failed != 0;
+}
