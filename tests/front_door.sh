@@ -25,6 +25,15 @@ siphon test now
 expect 'a word too many is refused' [ "$status" -eq 2 ]
 expect 'and named too' has err 'got: now'
 
+siphon soak
+expect 'soak without a number is refused' [ "$status" -eq 2 ]
+siphon soak many
+expect 'and with a wrong one' has err 'got: many'
+siphon soak 10 --seed
+expect 'and with a seed that is none' [ "$status" -eq 2 ]
+siphon speed now
+expect 'speed takes no word' [ "$status" -eq 2 ]
+
 # A repository of its own, with a stand-in for rt and one test. Each case: what the gate must be and its last line; what
 # rt ci prints and its status; what the test prints and its status; the status of the layout check.
 gate() { # green|red LAST RT-PRINTS RT-STATUS TEST-PRINTS TEST-STATUS LAYOUT-STATUS

@@ -1,0 +1,59 @@
+//! A lesson over the switch, from Rust: a window is open for student 15, a read crosses and its completion comes back; then
+//! an examination, where the same read is refused and logged. Prints what examples/c/lesson.c prints; ends with 1 if a call
+//! gave something else than it must.
+#![forbid(unsafe_code)]
+
+use siphonpear::{Refusal, Switch, Window, Words, OUT};
+use std::error::Error;
+
+const TEACHER: u32 = 0;
+const STUDENT: u32 = 15;
+const READ: [u32; 3] = [0x0000_0001, 0x0300_050F, 0x9000_0010];
+const COMPLETION: [u32; 4] = [0x4A00_0001, 0x0100_0004, 0x017C_0510, 0x0000_0037];
+
+/// Passes a packet, prints what became of it, and holds the refusal to the one wanted.
+fn pass(switch: &mut Switch, name: &str, from: u32, words: &[u32], wanted: Option<Refusal>) -> Result<(), Box<dyn Error>> {
+    let words = Words(words);
+    println!("{name}, from {from}: {words}");
+    let mut out = [0; OUT];
+    let outcome = switch.pass(from, &words.bytes(), &mut out);
+    println!("  {outcome}");
+    if outcome.refusal() == wanted {
+        Ok(())
+    } else {
+        Err(format!("the refusal is {:?}, and must be {wanted:?}", outcome.refusal()).into())
+    }
+}
+
+/// The row of a partition's log.
+fn print_log(switch: &Switch, p: u32) -> Result<(), Refusal> {
+    println!("log of {p}: {}", switch.log(p)?);
+    Ok(())
+}
+
+fn main() -> Result<(), Box<dyn Error>> {
+    let mut switch = Switch::new();
+    for p in 0..16 {
+        switch.set_bus(p, p + 1)?;
+    }
+    switch.set_entry(STUDENT, 0, 0x0300)?;
+
+    println!("A class: the window of student 15 is open.");
+    let window = Window { base: 0x9000_0000, target: 0x1_4000_0000, k: 20, to: TEACHER };
+    switch.set_window(STUDENT, 0, window)?;
+    pass(&mut switch, "a read", STUDENT, &READ, None)?;
+    pass(&mut switch, "its completion", TEACHER, &COMPLETION, None)?;
+    print_log(&switch, STUDENT)?;
+
+    println!("An examination: the window is shut.");
+    switch.empty_window(STUDENT, 0)?;
+    pass(&mut switch, "the same read", STUDENT, &READ, Some(Refusal::NoWindow))?;
+    pass(&mut switch, "the same completion", TEACHER, &COMPLETION, Some(Refusal::NotPassable))?;
+    print_log(&switch, STUDENT)?;
+    print_log(&switch, TEACHER)?;
+
+    println!("Afterwards: the log is cleared.");
+    switch.clear_log(STUDENT, 0xFFFF_FFFF)?;
+    print_log(&switch, STUDENT)?;
+    Ok(())
+}

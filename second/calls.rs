@@ -1,0 +1,267 @@
+//! Table calls, lends and stores: right ones, odd ones, and rubbish.
+
+use crate::model;
+use crate::packets::windows_of;
+use crate::random::Random;
+use crate::stream::{self, Bench, Record};
+
+/// The requester IDs that are set: few, so that they meet again.
+const IDS: [u32; 6] = [0x0300, 0x0301, 0x0000, 0xFFFF, 0x0140, 0x02C5];
+/// The buses that are set: few, so that partitions share them.
+const BUSES: [u32; 6] = [1, 2, 2, 0, 255, 7];
+
+/// A table call, mostly right, that suits the tables as they are.
+pub fn table_call(random: &mut Random, bench: &Bench) -> Record {
+    let p = partition(random);
+    match random.below(12) {
+        0..=3 => set_window(random, bench, p),
+        4 => Record::new(stream::EMPTY_WINDOW, &[p, window_slot(random)]),
+        5..=7 => set_entry(random, bench, p),
+        8 => Record::new(stream::FREE_ENTRY, &[p, entry_slot(random)]),
+        9 => set_bus(random, p),
+        10 if random.one_in(2) => Record::new(stream::MAKE_INACTIVE, &[p]),
+        _ => clear_log(random, p),
+    }
+}
+
+fn partition(random: &mut Random) -> u32 {
+    if random.one_in(24) {
+        random.pick(&[16, 17, 31, 255, 256, 0x1_0000, 0x0555_5556, 0x1000_0000, 0xFFFF_FFFF])
+    } else {
+        random.below(16)
+    }
+}
+
+fn window_slot(random: &mut Random) -> u32 {
+    match random.below(24) {
+        0 => random.pick(&[16, 17, 255, 256, 0x1_0000, 0x8000_0000, 0xFFFF_FFFF]),
+        1..=4 => random.pick(&[0, 3, 4, 15]),
+        _ => random.below(16),
+    }
+}
+
+fn entry_slot(random: &mut Random) -> u32 {
+    match random.below(16) {
+        0 => random.pick(&[4, 5, 15, 16, 0x1_0000, 0x4000_0000, 0xFFFF_FFFF]),
+        _ => random.below(4),
+    }
+}
+
+fn exponent(random: &mut Random) -> u32 {
+    match random.below(16) {
+        0 => random.pick(&[0, 11, 11, 40, 40, 63, 64, 76, 255, 268, 0x1_000C, 0xFFFF_FFFF]),
+        1..=8 => random.pick(&[12, 12, 13, 14, 16, 20]),
+        9..=11 => random.pick(&[31, 32, 33, 34, 38, 39]),
+        _ => 12 + random.below(28),
+    }
+}
+
+fn destination(random: &mut Random, p: u32) -> u32 {
+    match random.below(24) {
+        0 => random.pick(&[p, p, 16, 17, 31, 255, 256, 0x1_0001, 0xFFFF_FFFF]),
+        _ => p.wrapping_add(1 + random.below(15)) % 16,
+    }
+}
+
+/// The multiple of 2^k at or below `address`; a k above 63 counts as 63.
+fn aligned(address: u64, k: u32) -> u64 {
+    let k = k.min(63);
+    address >> k << k
+}
+
+/// A base or a target: low, just below 4 GiB, at 4 GiB, high, at the end, anywhere.
+fn place(random: &mut Random, k: u32) -> u64 {
+    let size = 1u64 << k.min(63);
+    let address = match random.below(12) {
+        0..=4 => u64::from(random.word()),
+        5 => (1u64 << 32).saturating_sub(size),
+        6 => 1 << 32,
+        7 | 8 => random.draw() >> 24,
+        9 => u64::MAX - (size - 1),
+        10 => 0,
+        _ => random.draw(),
+    };
+    aligned(address, k)
+}
+
+/// Sets a window: at a fresh place, or near a window that the partition has.
+pub fn set_window(random: &mut Random, bench: &Bench, p: u32) -> Record {
+    let near = windows_of(p as usize % 16, bench);
+    let (mut base, k) = if near.is_empty() || !random.one_in(3) {
+        let k = exponent(random);
+        (place(random, k), k)
+    } else {
+        let window = random.pick(&near);
+        span_near(random, window.base, window.k)
+    };
+    let mut target = place(random, k);
+    let bit = 1u64 << random.below(k.clamp(1, 63));
+    match random.below(32) {
+        0 => base |= bit,
+        1 => target |= bit,
+        _ => (),
+    }
+    let slot = window_slot(random);
+    let to = destination(random, p);
+    Record::new(stream::SET_WINDOW, &with_window(p, slot, base, target, k, to))
+}
+
+/// The eight parameters of a window.
+fn with_window(p: u32, slot: u32, base: u64, target: u64, k: u32, to: u32) -> [u32; 8] {
+    let high = |number: u64| (number >> 32) as u32;
+    [p, slot, high(base), base as u32, high(target), target as u32, k, to]
+}
+
+/// A span that is the given one, lies in it, around it, or just beside it.
+fn span_near(random: &mut Random, base: u64, k: u32) -> (u64, u32) {
+    let size = 1u64 << k;
+    match random.below(6) {
+        0 => (base, k),
+        1 => {
+            let inner = 12 + random.below(k - 11);
+            (base + aligned(random.draw() & (size - 1), inner), inner)
+        }
+        2 => {
+            let outer = k + random.below(40 - k);
+            (aligned(base, outer), outer)
+        }
+        3 => (base.wrapping_add(size), k),
+        4 => (base.wrapping_sub(size), k),
+        _ => (random.pick(&[base.wrapping_sub(4096), base + (size - 4096)]), 12),
+    }
+}
+
+/// Sets an entry. The word may have more bits than the requester ID takes.
+pub fn set_entry(random: &mut Random, bench: &Bench, p: u32) -> Record {
+    let held = bench.numbers[random.below(64) as usize] & 0xFFFF;
+    let id = match random.below(8) {
+        0 => random.word() & 0xFFFF,
+        1 => held,
+        _ => random.pick(&IDS),
+    };
+    let more = if random.one_in(8) { random.word() << 16 } else { 0 };
+    Record::new(stream::SET_ENTRY, &[p, entry_slot(random), id | more])
+}
+
+/// Sets a bus, now and then one that there is not.
+pub fn set_bus(random: &mut Random, p: u32) -> Record {
+    let bus = match random.below(12) {
+        0 => random.pick(&[256, 257, 511, 0x1_0001, 0xFFFF_FFFF]),
+        1 => random.below(256),
+        _ => random.pick(&BUSES),
+    };
+    Record::new(stream::SET_BUS, &[p, bus])
+}
+
+/// Clears all bits of a log's status, one that is used, or any.
+pub fn clear_log(random: &mut Random, p: u32) -> Record {
+    let any = random.word();
+    let ones = random.pick(&[u32::MAX, u32::MAX, u32::MAX, 1 << 20, 1 << 18, 1 << 12, 0, any]);
+    Record::new(stream::CLEAR_LOG, &[p, ones])
+}
+
+/// Lends every table with its right length, and Out and the answer buffer perhaps longer.
+pub fn right_lend(random: &mut Random) -> Record {
+    let out = if random.one_in(2) { 4112 } else { random.pick(&[4113, 4119, 4120, 9999]) };
+    let answer = if random.one_in(2) { 8 } else { random.pick(&[9, 10, 11]) };
+    Record::new(stream::LEND, &[768, 80, 96, out, answer])
+}
+
+/// Lends a table or the answer buffer with a wrong length.
+pub fn wrong_lend(random: &mut Random) -> Record {
+    let mut lengths = [768, 80, 96, 4112, 8];
+    match random.below(6) {
+        0 => lengths[0] = random.pick(&[0, 1, 767, 769, 0xFFFF_FFFF]),
+        1 => lengths[1] = random.pick(&[0, 1, 64, 79, 81, 0xFFFF_FFFF]),
+        2 => lengths[2] = random.pick(&[0, 6, 95, 97, 0xFFFF_FFFF]),
+        3 => lengths[3] = random.pick(&[0, 12, 16, 4096, 4111]),
+        4 => lengths[4] = random.below(8),
+        _ => lengths = [random.below(770), random.below(82), random.below(98), 4112, 10],
+    }
+    Record::new(stream::LEND, &lengths)
+}
+
+fn store(table: u32, place: usize, value: u64) -> Record {
+    Record::new(stream::STORE, &[table, place as u32, (value >> 32) as u32, value as u32])
+}
+
+/// Stores rubbish somewhere.
+pub fn rubbish(random: &mut Random, bench: &Bench) -> Vec<Record> {
+    let any = random.draw();
+    match random.below(16) {
+        0..=3 => spoiled_row(random, bench),
+        4 | 5 => row_over_another(random, bench),
+        6..=8 => vec![odd_entry(random, bench)],
+        9 => vec![odd_bus(random)],
+        10..=12 => {
+            let value = random.pick(&[0, 0, 1, 0x8000_0000, 0x0010_0000, any]);
+            let place = if random.one_in(2) { 6 * random.below(16) } else { random.below(96) };
+            vec![store(2, place as usize, value)]
+        }
+        13 | 14 => vec![store(3, random.below(4120) as usize, any)],
+        _ => {
+            let places = [767, 768, 769, 80, 81, 96, 97, 4112, 4119, 4120, 0xFFFF_FFFF];
+            vec![store(random.pick(&[0, 1, 2, 3, 4, 0xFFFF_FFFF]), random.pick(&places), any)]
+        }
+    }
+}
+
+/// Takes a row and makes it ill-formed in one way, or spoils its word altogether.
+fn spoiled_row(random: &mut Random, bench: &Bench) -> Vec<Record> {
+    let start = random.below(256) as usize;
+    let used = |&row: &usize| bench.windows[3 * row + 2] != 0;
+    let row = 3 * (start..256).find(used).unwrap_or(start);
+    let (base, target) = (bench.windows[row], bench.windows[row + 1]);
+    let control = bench.windows[row + 2];
+    let below_k = 1u64 << random.below((control & 0x3F).max(1) as u32);
+    let own = (row / 48) as u64;
+    let (word, value) = match random.below(8) {
+        0 => (2, control & !0xFF | random.pick(&[11, 11, 40, 40, 0, 255])),
+        1 => (2, control | 1 << random.pick(&[13, 13, 14, 31, 32, 63])),
+        2 => (2, control & !0xF00 | own << 8),
+        3 => (2, control ^ 1 << 12),
+        4 => (0, base | below_k),
+        5 => (1, target | below_k),
+        6 => (2, 0x1000 | random.draw() & 0xFFF),
+        _ => (random.below(3) as usize, random.draw()),
+    };
+    vec![store(0, row + word, value)]
+}
+
+/// Lays a row over another that is in force, as no call would.
+fn row_over_another(random: &mut Random, bench: &Bench) -> Vec<Record> {
+    let p = random.below(16);
+    let near = windows_of(p as usize, bench);
+    if near.is_empty() {
+        return Vec::new();
+    }
+    let window = random.pick(&near);
+    let (base, k) = span_near(random, window.base, window.k);
+    let target = place(random, k);
+    let control = 1 << 12 | u64::from(destination(random, p) & 0xF) << 8 | u64::from(k);
+    let row = 3 * (16 * p + random.below(16)) as usize;
+    vec![store(0, row, base), store(0, row + 1, target), store(0, row + 2, control)]
+}
+
+/// An entry that repeats another slot's, or is ill-formed.
+fn odd_entry(random: &mut Random, bench: &Bench) -> Record {
+    let place = random.below(64) as usize;
+    let beside = bench.numbers[place ^ (1 + random.below(3) as usize)];
+    let id = random.pick(&IDS);
+    let word = match random.below(6) {
+        0 | 1 => beside | 1 << 16,
+        2 => 1 << 16 | id | 1 << (17 + random.below(15)),
+        3 => id,
+        4 => id | 2 << 16,
+        _ => random.word(),
+    };
+    store(1, place, u64::from(word))
+}
+
+/// A bus word: active, inactive, or like an entry's.
+fn odd_bus(random: &mut Random) -> Record {
+    let any = random.word();
+    let like_entry = 0x1_0000 | any >> 16;
+    let word = random.pick(&[0, 1, 2, 2, 254, 255, 256, 257, like_entry, 0xFFFF_FFFF, any]);
+    store(1, model::BUSES + random.below(16) as usize, u64::from(word))
+}
