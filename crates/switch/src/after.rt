@@ -1,5 +1,8 @@
 // What passing changes: Out and the sender's log, as the outcome says.
 ghost use mathlib.Core.Path.{_≡_};
+ghost use mathlib.Core.List.{List};
+ghost use Prim.Native.Nat.{ℕ};
+ghost use Rattle.header.specs.Words.{headerOf};
 ghost use Rattle.switch.specs.Answer.{refusalNumber, onPaper};
 ghost use Rattle.switch.specs.After.{dataOf, outAfter, logBit, logged, logsAfter};
 use crate::answer::Outcome;
@@ -33,25 +36,27 @@ impl Refusal {
     }
 }
 
-// What follows the header of a packet.
-fn data_of(packet: &[u8]) -> &[u8]
+// What follows the header `h` of a packet.
+fn data_of(packet: &[u8], h: Header) -> &[u8]
+    requires { ⌜ h ≡ headerOf (now packet) ⌝ }
     ensures { λ r. ⌜ now r ≡ dataOf (now (packet .entry)) ⌝ }
 {
-    words::after(packet, Header::read(packet).header_bytes())
+    words::after(packet, h.header_bytes())
 }
 
-// Writes what came out, if anything did.
-pub fn write_out(outcome: Outcome, packet: &[u8], out: &mut [u8])
+// Writes what came out of a packet with the header `h`, if anything did.
+pub(crate) fn write_out(outcome: Outcome, packet: &[u8], h: Header, out: &mut [u8])
+    requires { ⌜ h ≡ headerOf (now packet) ⌝ }
     ensures { λ r. ⌜ now (out .exit) ≡ outAfter (onPaper outcome) (now (packet .entry)) (now (out .entry)) ⌝ }
 {
     match outcome {
         Outcome::Crossed(sent) => {
-            let h = sent.header;
-            tlp::write::write(h, data_of(packet), out);
+            let header = sent.header;
+            tlp::write::write(header, data_of(packet, h), out);
         }
         Outcome::Answered(_, sent) => {
-            let h = sent.header;
-            tlp::write::write(h, b"", out);
+            let header = sent.header;
+            tlp::write::write(header, b"", out);
         }
         Outcome::Dropped(_) => {}
     }
@@ -67,13 +72,13 @@ fn log(entry: Logged, p: u8, h: Header, logs: &mut [u32])
     }
 }
 
-// Logs what was refused.
-pub fn write_log(outcome: Outcome, p: u8, packet: &[u8], logs: &mut [u32])
-    ensures { λ r. ⌜ now (logs .exit) ≡ logsAfter (onPaper outcome) p (now (packet .entry)) (now (logs .entry)) ⌝ }
+// Logs what was refused, of a packet with the header `h`.
+pub(crate) fn write_log(outcome: Outcome, p: u8, h: Header, logs: &mut [u32])
+    ensures { λ r. ⌜ ((packet : List ℕ) → h ≡ headerOf packet → now (logs .exit) ≡ logsAfter (onPaper outcome) p packet (now (logs .entry))) ⌝ }
 {
     match outcome {
         Outcome::Crossed(_) => {}
-        Outcome::Answered(refusal, _) => log(refusal.log_bit(), p, Header::read(packet), logs),
-        Outcome::Dropped(refusal) => log(refusal.log_bit(), p, Header::read(packet), logs),
+        Outcome::Answered(refusal, _) => log(refusal.log_bit(), p, h, logs),
+        Outcome::Dropped(refusal) => log(refusal.log_bit(), p, h, logs),
     }
 }

@@ -1,15 +1,16 @@
 // "Passing a packet from partition p": the decision, in the list's order. It only reads.
 ghost use mathlib.Core.Path.{_≡_};
-ghost use mathlib.Core.Bool.{true};
-ghost use Prim.Native.Nat.{_<_};
-ghost use Rattle.header.specs.Fields.{requesterId};
-ghost use Rattle.numbers.specs.Entries.{entryOf};
+ghost use mathlib.Core.Bool.{Bool};
+ghost use mathlib.Core.List.{List};
+ghost use Prim.Native.Nat.{ℕ, _<_};
+ghost use Rattle.header.specs.Words.{headerOf};
+ghost use Rattle.header.specs.declared.words.Header.{Header};
+ghost use Rattle.numbers.specs.declared.entries.Found.the-variants.{At};
 ghost use Rattle.tlp.specs.Form.{ruleNumber};
 ghost use Rattle.switch.specs.Answer.{refusalNumber, onPaper};
 ghost use Rattle.switch.specs.Rule.{
   wrongCall,
   refused,
-  outgoing,
   toDestination,
   throughEntry,
   throughWindow,
@@ -22,6 +23,7 @@ ghost use Rattle.switch.specs.Rule.{
   packetRule,
   passRule,
 };
+ghost use Rattle.switch.specs.Steps.{sentUnder, wayAnswer, sortRule};
 use crate::answer::Outcome;
 use crate::answer::Refusal;
 use crate::answer::Sent;
@@ -33,6 +35,7 @@ use numbers::entries::Entry;
 use numbers::entries::Found;
 use numbers::entries::Numbers;
 use tlp::count;
+use tlp::form;
 use tlp::form::Packet;
 use tlp::form::Rule;
 use windows::look;
@@ -42,6 +45,19 @@ use windows::row::Window;
 
 // The shortest Out: 16 bytes of header and 4,096 of data.
 pub const OUT_LENGTH: usize = 4112;
+
+// Where a request goes: nowhere, for this refusal, or out, under this number.
+enum Way {
+    Refused(Refusal),
+    Out(Translation, u16),
+}
+
+// What a packet is to the list: a request, which reads or not; a completion; or a rule of form that broke.
+enum Sort {
+    Request(bool, Header),
+    Completion(Header),
+    Broken(Rule),
+}
 
 // 1: "partition above 15, a table of another length, Out too short".
 fn wrong_call(p: u32, windows: usize, numbers: usize, logs: usize, out: usize) -> bool
@@ -54,6 +70,52 @@ fn wrong_call(p: u32, windows: usize, numbers: usize, logs: usize, out: usize) -
         | (out < OUT_LENGTH)
 }
 
+// 8, "destination inactive"; or out, under the number of entry `i` on the destination's bus.
+fn to_destination(t: Translation, i: u16, numbers: &[u32]) -> Way
+    requires { ⌜ i < 64 ⌝ }
+    ensures { λ r. ⌜ ((reading : Bool) (p bus : ℕ) (h : Header) → wayAnswer r reading p bus h ≡ toDestination reading p bus h t i (now (numbers .entry))) ⌝ }
+{
+    if !buses::is_active(numbers, t.destination) {
+        return Way::Refused(Refusal::DestinationInactive);
+    }
+    let bus = (buses::bus(numbers, t.destination) % 256) as u16;
+    let number = 256 * bus + 64 + i;
+    Way::Out(t, number)
+}
+
+// 7, "no entry"; or on.
+fn through_entry(found: Found, t: Translation, numbers: &[u32]) -> Way
+    requires { ⌜ ((i : ℕ) → found ≡ At i → i < 64) ⌝ }
+    ensures { λ r. ⌜ ((reading : Bool) (p bus : ℕ) (h : Header) → wayAnswer r reading p bus h ≡ throughEntry found reading p bus h t (now (numbers .entry))) ⌝ }
+{
+    match found {
+        Found::Nothing => Way::Refused(Refusal::NoEntry),
+        Found::At(i) => to_destination(t, i, numbers),
+    }
+}
+
+// 6, "no window"; or on.
+fn through_window(look: Look, p: u8, h: Header, numbers: &[u32]) -> Way
+    requires { ⌜ p < 16 ⌝ }
+    ensures { λ r. ⌜ ((reading : Bool) (bus : ℕ) → wayAnswer r reading p bus h ≡ throughWindow look reading p bus h (now (numbers .entry))) ⌝ }
+{
+    match look {
+        Look::Shut => Way::Refused(Refusal::NoWindow),
+        Look::Open(t) => through_entry(entries::find(numbers, p, h.requester_id()), t, numbers),
+    }
+}
+
+// Where a request goes: 5, "EP set"; or on.
+fn route(p: u8, h: Header, windows: &[u64], numbers: &[u32]) -> Way
+    requires { ⌜ p < 16 ⌝ }
+    ensures { λ r. ⌜ ((reading : Bool) (bus : ℕ) → wayAnswer r reading p bus h ≡ requestRule reading p bus h (now (windows .entry)) (now (numbers .entry))) ⌝ }
+{
+    if h.is_poisoned() {
+        return Way::Refused(Refusal::Poisoned);
+    }
+    through_window(look::look_up(windows, p, h.address()), p, h, numbers)
+}
+
 // A refused request: a read is answered, anything else dropped.
 fn refuse(reading: bool, refusal: Refusal, p: u8, bus: u8, h: Header) -> Outcome
     ensures { λ r. ⌜ onPaper r ≡ refused reading (refusalNumber refusal) p bus h ⌝ }
@@ -64,71 +126,21 @@ fn refuse(reading: bool, refusal: Refusal, p: u8, bus: u8, h: Header) -> Outcome
     Outcome::Dropped(refusal)
 }
 
-// A request out, under the number of entry `i` on this bus.
-fn send(h: Header, t: Translation, bus: u8, i: u16) -> Outcome
-    requires { ⌜ i < 64 ⌝ }
-    ensures { λ r. ⌜ onPaper r ≡ outgoing h t bus i ⌝ }
+// A request out, under this number.
+fn send(h: Header, t: Translation, number: u16) -> Outcome
+    ensures { λ r. ⌜ onPaper r ≡ sentUnder h t number ⌝ }
 {
     let moved = h.readdressed(t.address);
-    Outcome::Crossed(Sent::new(moved.renamed(256 * (bus as u16) + 64 + i), t.destination))
+    Outcome::Crossed(Sent::new(moved.renamed(number), t.destination))
 }
 
-// 8, or it crosses.
-fn to_destination(
-    reading: bool,
-    p: u8,
-    bus: u8,
-    h: Header,
-    t: Translation,
-    i: u16,
-    numbers: &[u32],
-) -> Outcome
-    requires { ⌜ i < 64 ⌝ }
-    ensures { λ r. ⌜ onPaper r ≡ toDestination reading p bus h t i (now (numbers .entry)) ⌝ }
+// What becomes of a request that goes this way.
+fn finish(way: Way, reading: bool, p: u8, bus: u8, h: Header) -> Outcome
+    ensures { λ r. ⌜ onPaper r ≡ wayAnswer way reading p bus h ⌝ }
 {
-    if !buses::is_active(numbers, t.destination) {
-        return refuse(reading, Refusal::DestinationInactive, p, bus, h);
-    }
-    send(h, t, (buses::bus(numbers, t.destination) % 256) as u8, i)
-}
-
-// 7, or on.
-fn through_entry(
-    found: Found,
-    reading: bool,
-    p: u8,
-    bus: u8,
-    h: Header,
-    t: Translation,
-    numbers: &[u32],
-) -> Outcome
-    requires { ⌜ (found ≡ entryOf (now numbers) p (requesterId h)) × (p < 16) ⌝ }
-    ensures { λ r. ⌜ onPaper r ≡ throughEntry found reading p bus h t (now (numbers .entry)) ⌝ }
-{
-    match found {
-        Found::Nothing => refuse(reading, Refusal::NoEntry, p, bus, h),
-        Found::At(i) => to_destination(reading, p, bus, h, t, i, numbers),
-    }
-}
-
-// 6, or on.
-fn through_window(look: Look, reading: bool, p: u8, bus: u8, h: Header, numbers: &[u32]) -> Outcome
-    requires { ⌜ p < 16 ⌝ }
-    ensures { λ r. ⌜ onPaper r ≡ throughWindow look reading p bus h (now (numbers .entry)) ⌝ }
-{
-    match look {
-        Look::Shut => refuse(reading, Refusal::NoWindow, p, bus, h),
-        Look::Open(t) => {
-            through_entry(
-                entries::find(numbers, p, h.requester_id()),
-                reading,
-                p,
-                bus,
-                h,
-                t,
-                numbers,
-            )
-        }
+    match way {
+        Way::Refused(refusal) => refuse(reading, refusal, p, bus, h),
+        Way::Out(t, number) => send(h, t, number),
     }
 }
 
@@ -137,17 +149,7 @@ fn request(reading: bool, p: u8, bus: u8, h: Header, windows: &[u64], numbers: &
     requires { ⌜ p < 16 ⌝ }
     ensures { λ r. ⌜ onPaper r ≡ requestRule reading p bus h (now (windows .entry)) (now (numbers .entry)) ⌝ }
 {
-    if h.is_poisoned() {
-        return refuse(reading, Refusal::Poisoned, p, bus, h);
-    }
-    through_window(
-        look::look_up(windows, p, h.address()),
-        reading,
-        p,
-        bus,
-        h,
-        numbers,
-    )
+    finish(route(p, h, windows, numbers), reading, p, bus, h)
 }
 
 // The owner of the entry differs from the sender, is active, and has a window to it.
@@ -215,28 +217,50 @@ fn broken(rule: Rule) -> Refusal
     }
 }
 
+// Reads and writes as one sort, that of requests.
+fn sorted(packet: Packet) -> Sort
+    ensures { λ r. ⌜ ((p bus : ℕ) (windows numbers : List ℕ) → sortRule r p bus windows numbers ≡ packetRule packet p bus windows numbers) ⌝ }
+{
+    match packet {
+        Packet::Read(h) => Sort::Request(true, h),
+        Packet::Write(h) => Sort::Request(false, h),
+        Packet::Completion(h) => Sort::Completion(h),
+        Packet::Broken(rule) => Sort::Broken(rule),
+    }
+}
+
+// Requests, completions, or a rule that broke.
+fn of_sort(sort: Sort, p: u8, bus: u8, windows: &[u64], numbers: &[u32]) -> Outcome
+    requires { ⌜ p < 16 ⌝ }
+    ensures { λ r. ⌜ onPaper r ≡ sortRule sort p bus (now (windows .entry)) (now (numbers .entry)) ⌝ }
+{
+    match sort {
+        Sort::Request(reading, h) => request(reading, p, bus, h, windows, numbers),
+        Sort::Completion(h) => completion(p, bus, h, windows, numbers),
+        Sort::Broken(rule) => Outcome::Dropped(broken(rule)),
+    }
+}
+
 // 3 and 4 by the packet layer; then requests or completions.
 fn of_packet(packet: Packet, p: u8, bus: u8, windows: &[u64], numbers: &[u32]) -> Outcome
     requires { ⌜ p < 16 ⌝ }
     ensures { λ r. ⌜ onPaper r ≡ packetRule packet p bus (now (windows .entry)) (now (numbers .entry)) ⌝ }
 {
-    match packet {
-        Packet::Read(h) => request(true, p, bus, h, windows, numbers),
-        Packet::Write(h) => request(false, p, bus, h, windows, numbers),
-        Packet::Completion(h) => completion(p, bus, h, windows, numbers),
-        Packet::Broken(rule) => Outcome::Dropped(broken(rule)),
-    }
+    of_sort(sorted(packet), p, bus, windows, numbers)
 }
 
-// The whole decision, of the lengths of the logs and of Out and of everything else that is read.
-pub fn decide(
+// The whole decision, of the lengths of the logs and of Out and of everything else that is read. `h` is the packet's header,
+// which is read once for the whole call.
+pub(crate) fn decide(
     p: u32,
     packet: &[u8],
+    h: Header,
     windows: &[u64],
     numbers: &[u32],
     logs: usize,
     out: usize,
 ) -> Outcome
+    requires { ⌜ h ≡ headerOf (now packet) ⌝ }
     ensures { λ r. ⌜ onPaper r ≡ passRule p (now (packet .entry)) (now (windows .entry)) (now (numbers .entry)) logs out ⌝ }
 {
     if wrong_call(p, windows.len(), numbers.len(), logs, out) {
@@ -247,5 +271,5 @@ pub fn decide(
         return Outcome::Dropped(Refusal::SenderInactive);
     }
     let bus = (buses::bus(numbers, sender) % 256) as u8;
-    of_packet(Packet::read(packet), sender, bus, windows, numbers)
+    of_packet(form::form(packet.len(), h), sender, bus, windows, numbers)
 }

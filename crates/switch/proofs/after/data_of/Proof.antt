@@ -10,9 +10,6 @@ use Rattle.header.specs.declared.words.Header.{Header}
 use Rattle.switch.proofs.after.data_of.Statement.{statement}
 use Rattle.switch.proofs.after.data_of.Tie as tie
 
-read-requires : tie.Need-read-requires
-read-requires c κs = search needs
-
 header-bytes-requires : tie.Need-header-bytes-requires
 header-bytes-requires c κs = search needs
 
@@ -20,7 +17,9 @@ after-requires : tie.Need-after-requires
 after-requires c κs = search needs
 
 returns : tie.Need-returns
-returns c = c .after .ensures ∙ ap (λ (n : ℕ). drop n (now (c .before .before .before .before .args .packet))) (c .before .header-bytes .ensures ∙ ap (λ (h : Header). headerBytes (kind h)) (c .before .before .read .ensures))
+returns c =
+    let b = c .before .before .before in
+    c .after .ensures ∙ ap (λ (n : ℕ). drop n (now (b .args .packet))) (c .before .header-bytes .ensures ∙ ap (λ (h : Header). headerBytes (kind h)) (b .pre))
 
 pub data-of-spec : {M : Type 1} → statement M
-data-of-spec = tie.close (tie.spec read-requires header-bytes-requires after-requires returns)
+data-of-spec = tie.close (tie.spec header-bytes-requires after-requires returns)

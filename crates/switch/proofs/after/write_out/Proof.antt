@@ -33,7 +33,9 @@ same-length : tie.Need-same-length
 same-length c = search needs
 
 returns : tie.Need-returns
-returns c = rw (c .before .before .before .before .before .before .before .outcome .given .1) (c .before .before .write .ensures .1 ∙ ap (λ (l : List ℕ). over (now (c .before .before .before .before .before .before .before .before .before .before .before .args .out)) 0 (packetList (c .before .before .before .before .before .before .before .outcome .given .0 .0 .header) l)) (c .before .before .before .before .data-of .ensures))
+returns c =
+    let o = c .before .before .before .before .before .before .before .outcome in
+    rw (o .given .1) (c .before .before .write .ensures .1 ∙ ap (λ (l : List ℕ). over (now (c .before .before .before .before .before .before .before .before .before .before .before .args .out)) 0 (packetList (o .given .0 .0 .header) l)) (c .before .before .before .before .data-of .ensures))
 
 same-length-2 : tie.Need-same-length-2
 same-length-2 c = search needs

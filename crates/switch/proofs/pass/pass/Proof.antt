@@ -1,4 +1,5 @@
--- The decision is the rule's; Out and the logs are what the definitions make of it, and the log's row is the sender's. Assumes nothing.
+-- The decision is the rule's, of the header that was read; Out and the logs are what the definitions make of it, and the log's
+-- row is the sender's. Assumes nothing.
 use borrow.Author.Needs.{needs}
 use Prim.Native.Nat.{_%_}
 use mathlib.Core.Path.{refl, ap, sym, _∙_}
@@ -9,6 +10,9 @@ use Rattle.switch.specs.After.{logsAfter}
 use Rattle.switch.proofs.Laws.Sender.{sender}
 use Rattle.switch.proofs.pass.pass.Statement.{statement}
 use Rattle.switch.proofs.pass.pass.Tie as tie
+
+read-requires : tie.Need-read-requires
+read-requires c κs = search needs
 
 decide-requires : tie.Need-decide-requires
 decide-requires c κs = search needs
@@ -33,13 +37,13 @@ same-length-3 c = search needs
 
 returns : tie.Need-returns
 returns c =
-    let a = c .before .before .before .before .before .before .before .before .before .before .before .before .before .before .before .args in
+    let a = c .before .before .before .before .before .before .before .before .before .before .before .before .before .before .before .before .args in
     let e = c .before .before .before .before .before .before .before .before .decide .ensures in (
       e,
       (
         c .before .before .before .before .before .before .write-out .ensures,
         (
-          (c .before .before .write-log .ensures
+          (c .before .before .write-log .ensures (now (a .packet)) (c .before .before .before .before .before .before .before .before .before .before .read .ensures)
               ∙ ap (λ (r : Answer). logsAfter r (a .p % 256) (now (a .packet)) (now (a .logs))) e
               ∙ sender (a .p) (now (a .packet)) (now (a .windows)) (now (a .numbers)) (now (a .logs)) (length (now (a .out)))
               ∙ sym (ap (λ (r : Answer). logsAfter r (a .p) (now (a .packet)) (now (a .logs))) e)),
@@ -52,6 +56,7 @@ pub pass-spec : {M : Type 1} → statement M
 pass-spec =
     tie.close
     (tie.spec
+    read-requires
     decide-requires
     write-out-requires
     cast-write-log

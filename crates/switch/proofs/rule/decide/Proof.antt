@@ -1,4 +1,5 @@
--- A call that is not refused has a partition below 16, so the sender is it; an active sender's bus is below 256. Assumes nothing.
+-- A call that is not refused has a partition below 16, so the sender is it; an active sender's bus is below 256; and the
+-- packet is read from its own header words. Assumes nothing.
 use borrow.Author.Needs.{needs}
 use native.Mathlib.Omega.{arith}
 use Prim.Native.Nat.{ℕ, _%_}
@@ -9,7 +10,7 @@ use denote.Ref.{now}
 use lib.ListN.{length}
 use Rattle.header.proofs.Laws.Pick.{hit, pass, told}
 use Rattle.numbers.specs.Buses.{busOf, isActive}
-use Rattle.tlp.specs.Form.{packetOf}
+use Rattle.tlp.specs.Form.{formOf, packetOf}
 use Rattle.tlp.specs.declared.form.Packet.{Packet}
 use Rattle.switch.proofs.Laws.Call.{right-call, active-bus}
 use Rattle.switch.specs.Rule.{packetRule, passRule}
@@ -43,8 +44,8 @@ bus-requires c κs = search needs
 cast-bus : tie.Need-cast-bus
 cast-bus c = search needs
 
-read-requires : tie.Need-read-requires
-read-requires c κs = search needs
+form-requires : tie.Need-form-requires
+form-requires c κs = search needs
 
 of-packet-requires : tie.Need-of-packet-requires
 of-packet-requires c κs =
@@ -59,10 +60,11 @@ returns-3 c =
     let s : a .p % 256 ≡ a .p = omega (arith, right-call (a .p) (length (now (a .windows))) (length (now (a .numbers))) (a .logs) (a .out) w .partition) in
     let y = told (c .before .before .before .before .is-active .ensures) (not-false (c .before .before .before .before .is-active .result) (c .before .before .before .if2 .left)) in
     let k = ap (λ (n : ℕ). n % 256) (c .before .before .bus .ensures) ∙ active-bus (now (a .numbers)) (a .p % 256) y in
+    let f = c .before .form .ensures ∙ ap (formOf (length (now (a .packet)))) (c .before .before .before .before .before .before .before .before .before .before .pre) in
     pass _ _ _ w
     (pass _ _ _ (ap (λ (n : ℕ). not (isActive (now (a .numbers)) n)) (sym s) ∙ told (ap not (c .before .before .before .before .is-active .ensures)) (c .before .before .before .if2 .left))
     (c .of-packet .ensures
-    ∙ ap (λ (f : Packet). packetRule f (a .p % 256) (c .before .before .bus .result % 256) (now (a .windows)) (now (a .numbers))) (c .before .read .ensures)
+    ∙ ap (λ (g : Packet). packetRule g (a .p % 256) (c .before .before .bus .result % 256) (now (a .windows)) (now (a .numbers))) f
     ∙ ap (λ (n : ℕ). packetRule (packetOf (now (a .packet))) (a .p % 256) n (now (a .windows)) (now (a .numbers))) k
     ∙ ap (λ (n : ℕ). packetRule (packetOf (now (a .packet))) n (busOf (now (a .numbers)) n) (now (a .windows)) (now (a .numbers))) s))
 
@@ -77,6 +79,6 @@ decide-spec =
     returns-2
     bus-requires
     cast-bus
-    read-requires
+    form-requires
     of-packet-requires
     returns-3)

@@ -1,48 +1,19 @@
--- A poisoned request is refused; else the windows are asked of its address. Assumes nothing.
+-- What becomes of a request that goes the way which the rule gives it. Assumes nothing.
 use borrow.Author.Needs.{needs}
-use mathlib.Core.Path.{ap, _∙_}
-use denote.Ref.{now}
-use Rattle.header.proofs.Laws.Pick.{hit, pass, told}
-use Rattle.windows.specs.Look.{lookUp}
-use Rattle.windows.specs.declared.look.Look.{Look}
-use Rattle.switch.specs.Rule.{throughWindow, requestRule}
+use mathlib.Core.Path.{_∙_}
 use Rattle.switch.proofs.rule.request.Statement.{statement}
 use Rattle.switch.proofs.rule.request.Tie as tie
 
-is-poisoned-requires : tie.Need-is-poisoned-requires
-is-poisoned-requires c κs = search needs
+route-requires : tie.Need-route-requires
+route-requires c κs = search needs
 
-refuse-requires : tie.Need-refuse-requires
-refuse-requires c κs = search needs
+finish-requires : tie.Need-finish-requires
+finish-requires c κs = search needs
 
 returns : tie.Need-returns
-unfolding requestRule
-returns c = hit _ _ _ (told (c .before .before .is-poisoned .ensures) (c .before .if1 .taken)) (c .refuse .ensures)
-
-address-requires : tie.Need-address-requires
-address-requires c κs = search needs
-
-look-up-requires : tie.Need-look-up-requires
-look-up-requires c κs = search needs
-
-through-window-requires : tie.Need-through-window-requires
-through-window-requires c κs = search needs
-
-returns-2 : tie.Need-returns-2
-unfolding requestRule
-returns-2 c =
-    let a = c .before .before .before .before .before .before .before .args in
-    let e = c .before .look-up .ensures ∙ ap (lookUp (now (a .windows)) (a .p)) (c .before .before .address .ensures) in
-    pass _ _ _ (told (c .before .before .before .before .is-poisoned .ensures) (c .before .before .before .if1 .left)) (c .through-window .ensures ∙ ap (λ (l : Look). throughWindow l (a .reading) (a .p) (a .bus) (a .h) (now (a .numbers))) e)
+returns c =
+    let a = c .before .before .before .before .args in
+    c .finish .ensures ∙ c .before .route .ensures (a .reading) (a .bus)
 
 pub request-spec : {M : Type 1} → statement M
-request-spec =
-    tie.close
-    (tie.spec
-    is-poisoned-requires
-    refuse-requires
-    returns
-    address-requires
-    look-up-requires
-    through-window-requires
-    returns-2)
+request-spec = tie.close (tie.spec route-requires finish-requires returns)

@@ -4,21 +4,11 @@ use mathlib.Core.Path.{ap, _∙_}
 use Rattle.header.specs.declared.words.Header.{Header}
 use Rattle.header.specs.Rewrite.{renamed}
 use Rattle.switch.specs.Answer.{crossed, sentOf}
-use Rattle.switch.specs.Rule.{mappedId}
 use Rattle.switch.proofs.rule.send.Statement.{statement}
 use Rattle.switch.proofs.rule.send.Tie as tie
 
 readdressed-requires : tie.Need-readdressed-requires
 readdressed-requires c κs = search needs
-
-mul-renamed : tie.Need-mul-renamed
-mul-renamed c = search needs
-
-add-renamed : tie.Need-add-renamed
-add-renamed c = search needs
-
-add-renamed-2 : tie.Need-add-renamed-2
-add-renamed-2 c = search needs
 
 renamed-requires : tie.Need-renamed-requires
 renamed-requires c κs = search needs
@@ -29,16 +19,7 @@ new-requires c κs = search needs
 returns : tie.Need-returns
 returns c =
     let a = c .before .before .before .args in
-    ap crossed (c .new .ensures ∙ ap (λ (g : Header). sentOf g (a .t .destination)) (c .before .renamed .ensures ∙ ap (λ (g : Header). renamed g (mappedId (a .bus) (a .i))) (c .before .before .readdressed .ensures)))
+    ap crossed (c .new .ensures ∙ ap (λ (g : Header). sentOf g (a .t .destination)) (c .before .renamed .ensures ∙ ap (λ (g : Header). renamed g (a .number)) (c .before .before .readdressed .ensures)))
 
 pub send-spec : {M : Type 1} → statement M
-send-spec =
-    tie.close
-    (tie.spec
-    readdressed-requires
-    mul-renamed
-    add-renamed
-    add-renamed-2
-    renamed-requires
-    new-requires
-    returns)
+send-spec = tie.close (tie.spec readdressed-requires renamed-requires new-requires returns)

@@ -1,7 +1,7 @@
--- An inactive destination is refused; an active one has a bus below 256, under which the request goes out. Assumes nothing.
+-- An inactive destination is refused; an active one has a bus below 256, of which the number is one. Assumes nothing.
 use borrow.Author.Needs.{needs}
 use Prim.Native.Nat.{ℕ, _%_}
-use mathlib.Core.Path.{ap, _∙_}
+use mathlib.Core.Path.{refl, ap, _∙_}
 use mathlib.Core.Bool.{not}
 use borrow.Author.Tests.{not-false}
 use denote.Ref.{now}
@@ -14,38 +14,34 @@ use Rattle.switch.proofs.rule.to_destination.Tie as tie
 is-active-requires : tie.Need-is-active-requires
 is-active-requires c κs = search needs
 
-refuse-requires : tie.Need-refuse-requires
-refuse-requires c κs = search needs
-
 returns : tie.Need-returns
 unfolding toDestination
-returns c = hit _ _ _ (told (ap not (c .before .before .is-active .ensures)) (c .before .if1 .taken)) (c .refuse .ensures)
+returns c reading p bus h = hit _ _ _ (told (ap not (c .before .is-active .ensures)) (c .if1 .taken)) refl
 
 bus-requires : tie.Need-bus-requires
 bus-requires c κs = search needs
 
-cast-send : tie.Need-cast-send
-cast-send c = search needs
+cast-bus : tie.Need-cast-bus
+cast-bus c = search needs
 
-send-requires : tie.Need-send-requires
-send-requires c κs = search needs
+mul-number : tie.Need-mul-number
+mul-number c = search needs
+
+add-number : tie.Need-add-number
+add-number c = search needs
+
+add-number-2 : tie.Need-add-number-2
+add-number-2 c = search needs
 
 returns-2 : tie.Need-returns-2
 unfolding toDestination
-returns-2 c =
-    let a = c .before .before .before .before .before .args in
-    let y = told (c .before .before .before .is-active .ensures) (not-false (c .before .before .before .is-active .result) (c .before .before .if1 .left)) in
-    let e = ap (λ (k : ℕ). k % 256) (c .before .bus .ensures) ∙ active-bus (now (a .numbers)) (a .t .destination) y in
-    pass _ _ _ (told (ap not (c .before .before .before .is-active .ensures)) (c .before .before .if1 .left)) (c .send .ensures ∙ ap (λ (k : ℕ). outgoing (a .h) (a .t) k (a .i)) e)
+returns-2 c reading p bus h =
+    let a = c .before .before .before .before .args in
+    let y = told (c .before .before .is-active .ensures) (not-false (c .before .before .is-active .result) (c .before .if1 .left)) in
+    let e = ap (λ (k : ℕ). k % 256) (c .bus .ensures) ∙ active-bus (now (a .numbers)) (a .t .destination) y in
+    pass _ _ _ (told (ap not (c .before .before .is-active .ensures)) (c .before .if1 .left)) (ap (λ (k : ℕ). outgoing h (a .t) k (a .i)) e)
 
 pub to-destination-spec : {M : Type 1} → statement M
 to-destination-spec =
     tie.close
-    (tie.spec
-    is-active-requires
-    refuse-requires
-    returns
-    bus-requires
-    cast-send
-    send-requires
-    returns-2)
+    (tie.spec is-active-requires returns bus-requires cast-bus mul-number add-number add-number-2 returns-2)
