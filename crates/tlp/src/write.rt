@@ -2,10 +2,12 @@
 ghost use mathlib.Core.Path.{_≡_};
 ghost use Prim.Native.Nat.{_+_, _≤_};
 ghost use lib.ListN.{length};
-ghost use Rattle.header.specs.Kind.{headerBytes};
+ghost use mathlib.Core.List.{[]};
+ghost use Rattle.header.specs.Pick.{pick};
+ghost use Rattle.header.specs.Kind.{hasFourWords, headerBytes};
 ghost use Rattle.header.specs.Fields.{kind};
 ghost use Rattle.header.specs.Words.{wordBytes};
-ghost use Rattle.tlp.specs.Write.{threeWords, headerList, packetList, over, writtenBytes};
+ghost use Rattle.tlp.specs.Write.{packetList, over, writtenBytes};
 use header::words::Header;
 
 // A word's four bytes at `at`.
@@ -29,22 +31,12 @@ fn put_bytes(out: &mut [u8], at: usize, payload: &[u8])
     }
 }
 
-// The first three words, at the start.
-fn put_three(h: Header, out: &mut [u8])
-    requires { ⌜ 12 ≤ length (now out) ⌝ }
-    ensures { λ r. ⌜ now (out .exit) ≡ over (now (out .entry)) 0 (threeWords h) ⌝ }
+// The first word, and the fourth where the header has one.
+fn put_outer(h: Header, out: &mut [u8])
+    requires { ⌜ headerBytes (kind h) ≤ length (now out) ⌝ }
+    ensures { λ r. ⌜ now (out .exit) ≡ over (over (now (out .entry)) 0 (wordBytes (h .w0))) 12 (pick (hasFourWords (kind h)) (wordBytes (h .w3)) []) ⌝ }
 {
     put_word(out, 0, h.w0);
-    put_word(out, 4, h.w1);
-    put_word(out, 8, h.w2);
-}
-
-// The header's own three words, or four, at the start.
-fn put_header(h: Header, out: &mut [u8])
-    requires { ⌜ headerBytes (kind h) ≤ length (now out) ⌝ }
-    ensures { λ r. ⌜ now (out .exit) ≡ over (now (out .entry)) 0 (headerList h) ⌝ }
-{
-    put_three(h, out);
     if h.has_four_words() {
         put_word(out, 12, h.w3);
     }
@@ -57,8 +49,12 @@ pub fn write(h: Header, payload: &[u8], out: &mut [u8]) -> usize
 {
     let n = h.header_bytes();
     if n + payload.len() <= out.len() {
-        put_header(h, out);
+        // Not in a row: the stores of one word become one store only where those of no other stand beside them. The fourth
+        // word's test and the data's loop keep the first three apart.
+        put_outer(h, out);
+        put_word(out, 4, h.w1);
         put_bytes(out, n, payload);
+        put_word(out, 8, h.w2);
         return n + payload.len();
     }
     0

@@ -1,5 +1,6 @@
 -- Laws of the table of windows.
 pub mod Row
 pub mod Look
+pub mod Overlap
 pub mod Edit
 pub mod Frame

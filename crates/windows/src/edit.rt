@@ -1,6 +1,6 @@
 // "The table calls": set a window, empty it. Each checks everything first and touches the table last.
 ghost use mathlib.Core.Path.{_≡_};
-ghost use Prim.Native.Nat.{_+_, _≤_, _<_};
+ghost use Prim.Native.Nat.{_+_, _%_, _^_, _≤_, _<_};
 ghost use lib.ListN.{length};
 ghost use Rattle.tables.specs.Answer.{answerNumber};
 ghost use Rattle.windows.specs.Row.{rowAt};
@@ -21,7 +21,6 @@ ghost use Rattle.windows.specs.Edit.{
 use crate::row::Window;
 use crate::row::aligned;
 use crate::row::is_sized;
-use crate::row::spans;
 use tables::Answer;
 
 // Refusal 1: no such partition or slot, or a table of another length.
@@ -41,17 +40,19 @@ fn wrong_values(p: u32, base: u64, target: u64, k: u32, q: u32) -> bool
     true
 }
 
-// Two spans overlap: one begins inside the other.
+// Two spans overlap: one begins inside the other. Aligned spans never overlap in part: one lies in the other, or they do not
+// touch. So cut all addresses into blocks of the larger size: the spans overlap exactly if both bases lie in the same block.
 fn overlap(b: u64, k: u32, c: u64, j: u32) -> bool
-    requires { ⌜ (k < 64) × (j < 64) ⌝ }
+    requires { ⌜ (k < 64) × (j < 64) × (b % 2 ^ k ≡ 0) × (c % 2 ^ j ≡ 0) ⌝ }
     ensures { λ r. ⌜ r ≡ overlap b k c j ⌝ }
 {
-    spans(b, k, c) | spans(c, j, b)
+    let larger = if k < j { j } else { k };
+    b >> larger == c >> larger
 }
 
 // The row is in force, and the span overlaps it.
 fn row_overlaps(w: Window, p: u8, base: u64, k: u32) -> bool
-    requires { ⌜ k < 64 ⌝ }
+    requires { ⌜ (k < 64) × (base % 2 ^ k ≡ 0) ⌝ }
     ensures { λ r. ⌜ r ≡ rowOverlaps p base k w ⌝ }
 {
     if w.in_force(p) {
@@ -62,7 +63,7 @@ fn row_overlaps(w: Window, p: u8, base: u64, k: u32) -> bool
 
 // Slot `s` is not `slot`, and the span overlaps its row.
 fn other_overlaps(windows: &[u64], p: u8, slot: u8, base: u64, k: u32, s: u8) -> bool
-    requires { ⌜ k < 64 ⌝ }
+    requires { ⌜ (k < 64) × (base % 2 ^ k ≡ 0) ⌝ }
     ensures { λ r. ⌜ r ≡ otherOverlaps (now (windows .entry)) p slot base k s ⌝ }
 {
     (s != slot) & row_overlaps(Window::read(windows, p, s), p, base, k)
@@ -70,7 +71,7 @@ fn other_overlaps(windows: &[u64], p: u8, slot: u8, base: u64, k: u32, s: u8) ->
 
 // The lowest other slot that the span overlaps; 16 where there is none.
 fn overlapped_slot(windows: &[u64], p: u8, slot: u8, base: u64, k: u32) -> u8
-    requires { ⌜ k < 64 ⌝ }
+    requires { ⌜ (k < 64) × (base % 2 ^ k ≡ 0) ⌝ }
     ensures { λ r. ⌜ r ≡ overlappedSlot (now (windows .entry)) p slot base k ⌝ }
 {
     let mut s: u8 = 0;
@@ -85,7 +86,7 @@ fn overlapped_slot(windows: &[u64], p: u8, slot: u8, base: u64, k: u32) -> u8
 
 // Refusal 11: "overlaps another in-force row of the owner".
 fn overlaps(windows: &[u64], p: u8, slot: u8, base: u64, k: u32) -> bool
-    requires { ⌜ k < 64 ⌝ }
+    requires { ⌜ (k < 64) × (base % 2 ^ k ≡ 0) ⌝ }
     ensures { λ r. ⌜ r ≡ overlaps (now (windows .entry)) p slot base k ⌝ }
 {
     overlapped_slot(windows, p, slot, base, k) < Window::SLOTS

@@ -123,7 +123,7 @@ pub(crate) fn aligned(x: u64, k: u32) -> bool
 }
 
 // The address lies between the base and base + 2^k − 1.
-pub(crate) fn spans(base: u64, k: u32, a: u64) -> bool
+fn spans(base: u64, k: u32, a: u64) -> bool
     requires { ⌜ k < 64 ⌝ }
     ensures { λ r. ⌜ r ≡ spans base k a ⌝ }
 {

@@ -8,7 +8,7 @@ use borrow.Author.Tests.{leb-true, ltb-true, eqb-true, eqb-false, not-true}
 use lib.Dec.{eqb, ltb, leb}
 use lib.Pow.{shl-exact, pow-add, split, shr-lt, mod-mod-pow}
 use lib.Arith.{digits-lt}
-use native.Mathlib.Nat.{one-mul}
+use native.Mathlib.Nat.{one-mul, zero-mod}
 use Rattle.header.proofs.Laws.Join.{both}
 use Rattle.windows.specs.Row.{exponent, destination, isEnabled, spareZero, isSized, isPlain, aligned, inForce, spans, covers}
 use Rattle.windows.specs.declared.row.Window.{Window}
@@ -68,12 +68,12 @@ covered-fits p a w b e =
     let k = plain-size w (f .plain) in
     (s .0, room (w .target) (a - w .base) (exponent w) (omega arith) b (f .target) (s .1))
 
--- a multiple of 2^k, with k at least 12, is one of a page
-paged : (n k : ℕ) → 12 ≤ k → n % 2 ^ k ≡ 0 → n % 2 ^ 12 ≡ 0
-paged n k h z =
-    let e : k ≡ k - 12 + 12 = omega arith in
-    let z′ : n % 2 ^ (k - 12 + 12) ≡ 0 = rw (← e) z in
-    sym (mod-mod-pow n (k - 12) 12) ∙ ap (λ (m : ℕ). m % 2 ^ 12) z′
+-- a multiple of 2^k is one of each smaller power
+pub smaller : (n i k : ℕ) → i ≤ k → n % 2 ^ k ≡ 0 → n % 2 ^ i ≡ 0
+smaller n i k h z =
+    let e : k ≡ k - i + i = omega arith in
+    let z′ : n % 2 ^ (k - i + i) ≡ 0 = rw (← e) z in
+    sym (mod-mod-pow n (k - i) i) ∙ ap (λ (m : ℕ). m % 2 ^ i) z′ ∙ zero-mod (2 ^ i)
 
 -- "moved by whole 4 KiB pages": the low twelve bits of a covered address stay
 pub covered-pages : (p a : ℕ) (w : Window) → covers p a w ≡ true → (a - w .base + w .target) % 2 ^ 12 ≡ a % 2 ^ 12
@@ -82,7 +82,7 @@ covered-pages p a w e =
     let f = force p w (r .0) in
     let s = spanned (w .base) (exponent w) a (r .1) in
     let k = plain-size w (f .plain) in
-    moved a (w .base) (w .target) (s .0) (paged (w .base) (exponent w) (k .0) (f .base)) (paged (w .target) (exponent w) (k .0) (f .target))
+    moved a (w .base) (w .target) (s .0) (smaller (w .base) 12 (exponent w) (k .0) (f .base)) (smaller (w .target) 12 (exponent w) (k .0) (f .target))
   where
     moved : (a b t : ℕ) → b ≤ a → b % 2 ^ 12 ≡ 0 → t % 2 ^ 12 ≡ 0 → (a - b + t) % 2 ^ 12 ≡ a % 2 ^ 12
     moved a b t l p q = omega arith

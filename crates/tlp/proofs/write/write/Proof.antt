@@ -1,4 +1,4 @@
--- Where header and data fit, the one is written at the start and the other behind it; else nothing is. Assumes nothing.
+-- Where header and data fit, the parts that are written are the packet; else nothing is written. Assumes nothing.
 use borrow.Author.Needs.{needs}
 use native.Mathlib.Omega.{arith}
 use Prim.Native.Nat.{ℕ, _+_, _≤_, _<_}
@@ -6,9 +6,9 @@ use mathlib.Core.Path.{sym, ap, _∙_}
 use lib.ListN.{length}
 use denote.Ref.{now}
 use Rattle.header.specs.Fields.{kind}
-use Rattle.tlp.specs.Write.{headerList, packetList}
+use Rattle.tlp.specs.Write.{packetList}
 use Rattle.header.proofs.Laws.Lengths.{header-bounds}
-use Rattle.tlp.proofs.Laws.Write.{then-over, over-short, length-header, length-packet, written-fits, written-short}
+use Rattle.tlp.proofs.Laws.Write.{packet-over, over-short, length-packet, written-fits, written-short}
 use Rattle.tlp.proofs.write.write.Statement.{statement}
 use Rattle.tlp.proofs.write.write.Tie as tie
 
@@ -18,11 +18,20 @@ header-bytes-requires c κs = search needs
 add-if1 : tie.Need-add-if1
 add-if1 c = omega (arith, header-bounds (kind (c .before .before .before .args .h)))
 
-put-header-requires : tie.Need-put-header-requires
-put-header-requires c κs = search needs
+put-outer-requires : tie.Need-put-outer-requires
+put-outer-requires c κs = search needs
+
+put-word-requires : tie.Need-put-word-requires
+put-word-requires c κs = omega (arith, header-bounds (kind (c .before .before .before .before .before .before .before .before .before .args .h)), c .before .before .before .before .before .before .header-bytes .ensures, c .before .before .before .before .before .if1 .taken, c .before .before .before .put-outer .kept .1 .0)
 
 put-bytes-requires : tie.Need-put-bytes-requires
 put-bytes-requires c κs = search needs
+
+put-word-requires-2 : tie.Need-put-word-requires-2
+put-word-requires-2 c κs =
+    let outer = c .before .before .before .before .before .before .before .before .before .before .before in
+    let start = outer .before .before .before in
+    omega (arith, header-bounds (kind (start .before .before .before .args .h)), start .header-bytes .ensures, outer .before .before .if1 .taken, outer .put-outer .kept .1 .0, c .before .before .before .before .before .before .before .put-word .kept .0, c .before .before .before .put-bytes .kept .0)
 
 add-result : tie.Need-add-result
 add-result c = search needs
@@ -32,13 +41,20 @@ same-length c = search needs
 
 returns : tie.Need-returns
 returns c =
-    let h = c .before .before .before .before .before .before .before .before .before .before .before .before .args .h in
-    let o = now (c .before .before .before .before .before .before .before .before .before .before .before .before .args .out) in
-    let p = now (c .before .before .before .before .before .before .before .before .before .before .before .before .args .payload) in
-    let n = c .before .before .before .before .before .before .before .before .before .header-bytes .ensures in
-    let fits : length (packetList h p) ≤ length o = rw (length-packet h p, ← n) (c .before .before .before .before .before .before .before .before .if1 .taken) in (
+    let third = c .before .before in
+    let bytes = third .before .before .before .before in
+    let second = bytes .before .before .before .before in
+    let outer = second .before .before .before .before in
+    let test = outer .before .before in
+    let start = test .before in
+    let args = start .before .before .before .args in
+    let h = args .h in
+    let o = now (args .out) in
+    let p = now (args .payload) in
+    let n = start .header-bytes .ensures in
+    let fits : length (packetList h p) ≤ length o = rw (length-packet h p, ← n) (test .if1 .taken) in (
       ap (λ (k : ℕ). k + length p) n ∙ sym (length-packet h p) ∙ sym (written-fits (length o) (packetList h p) fits),
-      then-over o (c .before .before .before .before .before .before .put-header .last .1 .0) (c .before .before .put-bytes .last .0) (headerList h) p (c .before .before .before .before .before .before .before .before .before .header-bytes .result) (c .before .before .before .before .before .before .put-header .ensures) (c .before .before .put-bytes .ensures) (n ∙ sym (length-header h)) (omega (arith, length-header h, n, c .before .before .before .before .before .before .before .before .if1 .taken)),
+      packet-over h p o (outer .put-outer .last .1 .0) (second .put-word .last .0) (bytes .put-bytes .last .0) (third .put-word2 .last .0) (start .header-bytes .result) (outer .put-outer .ensures) (second .put-word .ensures) (bytes .put-bytes .ensures) (third .put-word2 .ensures) n (test .if1 .taken),
     )
 
 returns-2 : tie.Need-returns-2
@@ -55,8 +71,10 @@ write-spec =
     (tie.spec
     header-bytes-requires
     add-if1
-    put-header-requires
+    put-outer-requires
+    put-word-requires
     put-bytes-requires
+    put-word-requires-2
     add-result
     same-length
     returns

@@ -1,4 +1,4 @@
--- A row that is not in force overlaps nothing; of one in force the shift is in range, and the spans say. Assumes nothing.
+-- A row that is not in force overlaps nothing; one in force is aligned and its shift in range, and the spans say. Assumes nothing.
 use borrow.Author.Needs.{needs}
 use native.Mathlib.Omega.{arith}
 use Rattle.header.proofs.Laws.Pick.{told}
@@ -14,7 +14,10 @@ exponent-requires : tie.Need-exponent-requires
 exponent-requires c κs = search needs
 
 overlap-requires : tie.Need-overlap-requires
-overlap-requires c κs = (omega arith, omega (arith, c .exponent .ensures, plain-size (c .before .before .before .args .w) (force (c .before .before .before .args .p) (c .before .before .before .args .w) (told (c .before .before .in-force .ensures) (c .before .if1 .taken)) .plain)))
+overlap-requires c κs =
+    let a = c .before .before .before .args in
+    let f = force (a .p) (a .w) (told (c .before .before .in-force .ensures) (c .before .if1 .taken)) in
+    (omega arith, omega (arith, c .exponent .ensures, plain-size (a .w) (f .plain)), c .before .before .before .pre .1, rw (c .exponent .ensures) (f .base))
 
 returns : tie.Need-returns
 returns c = and-yes _ _ _ (told (c .before .before .before .in-force .ensures) (c .before .before .if1 .taken)) (cc)

@@ -46,7 +46,8 @@ cast-overlaps-2 c =
 overlaps-requires : tie.Need-overlaps-requires
 overlaps-requires c κs =
     let a = c .before .before .before .before .before .before .args in
-    omega (arith, right-values (a .p) (a .base) (a .target) (a .k) (a .q) (told (c .before .before .wrong-values .ensures) (c .before .if2 .left)))
+    let v = right-values (a .p) (a .base) (a .target) (a .k) (a .q) (told (c .before .before .wrong-values .ensures) (c .before .if2 .left)) in
+    (omega (arith, v), v .1)
 
 same-length : tie.Need-same-length
 same-length c = search needs
