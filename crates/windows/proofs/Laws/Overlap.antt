@@ -8,7 +8,7 @@ use native.Mathlib.Omega.{arith}
 use borrow.Author.Tests.{le-leb, lt-ltb, eqb-true, eq-eqb}
 use lib.Dec.{eqb}
 use lib.Pow.{pow-pos, split, high, low}
-use Rattle.header.proofs.Laws.Join.{and-yes, or-yes, or-no}
+use Rattle.header.proofs.Laws.Join.{and-yes}
 use Rattle.windows.specs.Row.{spans}
 use Rattle.windows.specs.Edit.{overlap}
 use Rattle.windows.proofs.Laws.Row.{spanned, smaller}
