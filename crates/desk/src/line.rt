@@ -37,7 +37,7 @@ fn print_sent(sent: Sent) {
 }
 
 // The line.
-pub fn print(outcome: Outcome) {
+pub(crate) fn print(outcome: Outcome) {
     match outcome {
         Outcome::Crossed(sent) => {
             io::write_all(STDOUT_FILENO, b"crossed");

@@ -5,6 +5,7 @@ ghost use Rattle.switch.specs.Answer.{onPaper};
 ghost use Rattle.switch.specs.Rule.{passRule};
 ghost use Rattle.switch.specs.After.{outAfter};
 ghost use Rattle.sheet.specs.Tables.{windows, numbers};
+ghost use Rattle.desk.specs.Passing.{OutOfInput};
 use crate::line;
 use libc::STDIN_FILENO;
 use libc::STDOUT_FILENO;
@@ -32,7 +33,9 @@ fn failed(n: usize, room: usize) -> bool {
 }
 
 // Reads one packet from standard input, cut where the buffer ends, passes it from `p`, and prints the line.
-pub fn pass_input(p: u32, packet: &mut [u8], out: &mut [u8]) {
+pub fn pass_input(p: u32, packet: &mut [u8], out: &mut [u8])
+    ensures { λ r. ⌜ OutOfInput p (now (packet .exit)) (now (out .entry)) (now (out .exit)) ⌝ }
+{
     let n = io::read_full(STDIN_FILENO, packet);
     if failed(n, packet.len()) {
         io::write_all(STDOUT_FILENO, b"no packet: standard input cannot be read\n");
