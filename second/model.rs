@@ -390,7 +390,7 @@ fn form_is_right(words: &[u32; 4]) -> bool {
 /// Whether the first and the last enables fit the Length and the address.
 fn enables_are_right(length: u32, address: u64, (first, last): (u32, u32)) -> bool {
     if length == 1 {
-        return last == 0 && first != 0;
+        return last == 0;
     }
     if length == 2 && address & 7 == 0 {
         return first != 0 && last != 0;

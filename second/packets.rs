@@ -197,7 +197,7 @@ fn fitting(random: &mut Random, address: u64) -> (u64, u32) {
 /// Last and first enables that mostly suit the Length and the address.
 fn enables(random: &mut Random, length: u32, address: u64) -> u32 {
     let (mut first, mut last) = if length == 1 {
-        (1 + random.below(15), 0)
+        (if random.one_in(3) { 0 } else { 1 + random.below(15) }, 0)
     } else if length == 2 && address & 7 == 0 {
         (1 + random.below(15), 1 + random.below(15))
     } else if length == 1024 && !random.one_in(4) {

@@ -135,11 +135,13 @@ fn cases_to_n() -> Vec<Case> {
     let three_out = [0x0A00_0000, 0x0200_2006, 0x0301_0513];
     let most = "answered 7 12 0A000000 02002000 03010500";
     let most_out = [0x0A00_0000, 0x0200_2000, 0x0301_0500];
+    let m = "crossed 0 16 20000001 01460500 00000001 40000010";
+    let m_out = [0x2000_0001, 0x0146_0500, 0x0000_0001, 0x4000_0010];
     vec![
         refused("L, Length 1", 1, &[1, 0x0301_0506, 0x9000_0010], middle, 20, &middle_out),
         refused("L, Length 3", 1, &[3, 0x0301_0518, 0x9000_0010], three, 20, &three_out),
         refused("L, Length 1,024", 1, &[0, 0x0301_05FF, 0x9000_0000], most, 20, &most_out),
-        refused("M", 1, &[1, 0x0300_0500, 0x9000_0010], "dropped 3", 18, &[]),
+        crossing("M", 1, &[1, 0x0300_0500, 0x9000_0010], m, &m_out),
         refused("N", 1, &[0x2000_0001, 0x0300_050F, 0, 0x9000_0010], "dropped 3", 18, &[]),
     ]
 }

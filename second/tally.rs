@@ -7,10 +7,21 @@ use std::collections::BTreeMap;
 /// A long run reaches every refusal and every crossing so often at least.
 const ENOUGH: u64 = 100;
 
+/// And each outcome of a flush at least so often.
+const ENOUGH_FLUSHES: u64 = 25;
+
 /// The crossings: the kind that went in and the kind that came out.
 const CROSSINGS: [(u8, u8); 10] = [
     (0x00, 0x00), (0x00, 0x20), (0x20, 0x00), (0x20, 0x20), (0x40, 0x40),
     (0x40, 0x60), (0x60, 0x40), (0x60, 0x60), (0x0A, 0x0A), (0x4A, 0x4A),
+];
+
+/// What becomes of flushes, requests of one dword with no byte enabled: by kind, outcome and number.
+const FLUSHES: [(&str, &str, u32); 10] = [
+    ("read", "crossed", 0), ("read", "answered", 5), ("read", "answered", 6),
+    ("read", "answered", 7), ("read", "answered", 8), ("write", "crossed", 0),
+    ("write", "dropped", 5), ("write", "dropped", 6), ("write", "dropped", 7),
+    ("write", "dropped", 8),
 ];
 
 /// The names of the calls, from 1 on.
@@ -25,6 +36,28 @@ pub fn call_name(call: u32) -> &'static str {
     CALLS.get(place).copied().unwrap_or("no call")
 }
 
+/// Whether a packet is a flush read or a flush write, by its bytes alone.
+fn flush(packet: &[u8]) -> Option<&'static str> {
+    let one_dword = packet.len() >= 12 && packet[2] & 3 == 0 && packet[3] == 1;
+    if !one_dword || packet[7] != 0 {
+        return None;
+    }
+    match packet[0] {
+        0x00 | 0x20 => Some("read"),
+        0x40 | 0x60 => Some("write"),
+        _ => None,
+    }
+}
+
+/// A name and a number that is not 0.
+fn numbered(name: &str, number: u32) -> String {
+    if number == 0 {
+        String::from(name)
+    } else {
+        format!("{name} {number}")
+    }
+}
+
 /// The counts.
 #[derive(Default)]
 pub struct Tally {
@@ -32,6 +65,7 @@ pub struct Tally {
     pub others: u64,
     outcomes: BTreeMap<(&'static str, u32), u64>,
     crossings: BTreeMap<(u8, u8), u64>,
+    flushes: BTreeMap<(&'static str, &'static str, u32), u64>,
     calls: BTreeMap<(u32, u32), u64>,
 }
 
@@ -57,18 +91,25 @@ impl Tally {
             Outcome::Dropped(_) => "dropped",
         };
         *self.outcomes.entry((name, number)).or_insert(0) += 1;
+        if let Some(kind) = flush(&record.packet) {
+            *self.flushes.entry((kind, name, number)).or_insert(0) += 1;
+        }
     }
 
     /// The counts as a text.
     pub fn text(&self) -> String {
         let mut text = String::from("packets:\n");
         for (&(name, number), count) in &self.outcomes {
-            let number = if number == 0 { String::new() } else { format!(" {number}") };
-            text.push_str(&format!("  {:<24}{count:>10}\n", format!("{name}{number}")));
+            text.push_str(&format!("  {:<24}{count:>10}\n", numbered(name, number)));
         }
         text.push_str("crossings:\n");
         for ((into, out), count) in &self.crossings {
             text.push_str(&format!("  {:<24}{count:>10}\n", format!("{into:02X} -> {out:02X}")));
+        }
+        text.push_str("flushes:\n");
+        for (&(kind, name, number), count) in &self.flushes {
+            let outcome = numbered(name, number);
+            text.push_str(&format!("  {:<24}{count:>10}\n", format!("{kind} {outcome}")));
         }
         text.push_str("other calls:\n");
         for (&(call, number), count) in &self.calls {
@@ -100,6 +141,13 @@ impl Tally {
             let count = self.crossings.get(&kinds).copied().unwrap_or(0);
             if count < ENOUGH {
                 rare.push(format!("crossing {:02X} -> {:02X} ({count} times)", kinds.0, kinds.1));
+            }
+        }
+        for flush in FLUSHES {
+            let count = self.flushes.get(&flush).copied().unwrap_or(0);
+            if count < ENOUGH_FLUSHES {
+                let outcome = numbered(flush.1, flush.2);
+                rare.push(format!("flush {} {outcome} ({count} times)", flush.0));
             }
         }
         rare

@@ -87,7 +87,7 @@ static uint64_t address(const struct header *h) {
 static uint32_t request_form(const struct header *h) {
     uint32_t first = h->w[1] & 15, last = h->w[1] >> 4 & 15, length = dwords(h);
     uint64_t a = address(h);
-    if (length == 1 ? last != 0 || first == 0 : first == 0 || last == 0)
+    if (length == 1 ? last != 0 : first == 0 || last == 0)
         return 3;
     if (length != 1 && !(length == 2 && a % 8 == 0)) {
         if (!(first == 15 || first == 14 || first == 12 || first == 8))

@@ -1,9 +1,10 @@
--- A file for each demand, and those that they share.
+-- A file for each demand and for each change request that adds to them, and those that they share.
 pub mod Bytes
 pub mod CameOut
 pub mod Crossing
 pub mod Demand1
 pub mod Examination
+pub mod Flush
 pub mod Forms
 pub mod Listed
 pub mod Logged

@@ -1,1 +1,2 @@
-// The demands as theorems over the passing rule. There is no code here: proofs/Laws holds a file for each demand.
+// The demands, and what change requests add to them, as theorems over the passing rule. There is no code here: proofs/Laws holds a file
+// for each.

@@ -252,8 +252,8 @@ fn lengths() {
 
 // "Request form": enables.
 fn enables() {
-    say(b"Length 1, first 0000");
-    show(12, 0x0000_0001, 0x0300_0500, 0x9000_0010, 0);
+    say(b"Length 1, first 0000, last 0001");
+    show(12, 0x0000_0001, 0x0300_0510, 0x9000_0010, 0);
     say(b"Length 1, last 0001");
     show(12, 0x0000_0001, 0x0300_051F, 0x9000_0010, 0);
     say(b"Length 1, first 0101");
@@ -262,10 +262,28 @@ fn enables() {
     show(12, 0x0000_0002, 0x0300_05F0, 0x9000_0010, 0);
     say(b"Length 2, last 0000");
     show(12, 0x0000_0002, 0x0300_050F, 0x9000_0010, 0);
-    say(b"Length 1, first 0000, bit 16 set");
-    show(12, 0x0001_0001, 0x0300_0500, 0x9000_0010, 0);
+    say(b"Length 1, last 0001, bit 16 set");
+    show(12, 0x0001_0001, 0x0300_051F, 0x9000_0010, 0);
     say(b"Length 1, first 1111, bits 23 and 19:16 set");
     show(12, 0x008F_0001, 0x0300_050F, 0x9000_0010, 0);
+}
+
+// "First enables 0, read or write": a flush.
+fn flushes() {
+    say(b"Length 1, first 0000");
+    show(12, 0x0000_0001, 0x0300_0500, 0x9000_0010, 0);
+    say(b"Length 1, first 0000, a write");
+    show(16, 0x4000_0001, 0x0300_0500, 0x9000_0010, 0);
+    say(b"Length 1, first 0000, a write without data");
+    show(12, 0x4000_0001, 0x0300_0500, 0x9000_0010, 0);
+    say(b"Length 1, first 0000, 64-bit");
+    show(16, 0x2000_0001, 0x0300_0500, 0x0000_0001, 0x4000_0010);
+    say(b"Length 1, first 0000, bit 16 set");
+    show(12, 0x0001_0001, 0x0300_0500, 0x9000_0010, 0);
+    say(b"Length 1, first 0000, last dword of a page");
+    show(12, 0x0000_0001, 0x0300_0500, 0x900F_FFFC, 0);
+    say(b"Length 1, first 0000, zero high word");
+    show(16, 0x2000_0001, 0x0300_0500, 0x0000_0000, 0x9000_0010);
 }
 
 // "Request form": contiguity.
@@ -312,6 +330,7 @@ fn main() {
     short_packets();
     lengths();
     enables();
+    flushes();
     contiguity();
     pages();
 }

@@ -205,12 +205,32 @@ fn long_crossings() {
     );
 }
 
-// Cases E, K, M and N.
+// R-1: M, and a flush write, which has its word of data with it.
+fn flushes() {
+    one(b"M", 12, 1, 0x0300_0500, 0x9000_0010);
+    one(b"M, a write", 16, 0x4000_0001, 0x0300_0500, 0x9000_0010);
+    one(b"M with last enables 0001", 12, 1, 0x0300_0510, 0x9000_0010);
+}
+
+// A flush read that is refused is answered, with byte count 1.
+fn refused_flushes() {
+    one(b"M with EP", 12, 0x0000_4001, 0x0300_0500, 0x9000_0010);
+    one(b"M past the window", 12, 1, 0x0300_0500, 0x9010_007F);
+    one(b"M with another requester", 12, 1, 0x0301_0500, 0x9000_0010);
+    one(
+        b"M to an inactive partition",
+        12,
+        1,
+        0x0300_0500,
+        0xA000_0000,
+    );
+}
+
+// Cases E, K and N.
 fn forms() {
     one(b"K", 11, 1, 0x0300_050F, 0x9000_0010);
     one(b"K, no bytes", 0, 1, 0x0300_050F, 0x9000_0010);
     one(b"E", 12, 0x0000_0002, 0x0300_05FF, 0x900F_FFFC);
-    one(b"M", 12, 1, 0x0300_0500, 0x9000_0010);
     wide(b"N", 16, 0x2000_0001, 0, 0x9000_0010);
 }
 
@@ -276,10 +296,10 @@ fn not_carried() {
 fn digests() {
     one(b"A with TD", 12, 0x0000_8001, 0x0300_050F, 0x9000_0010);
     one(
-        b"A with TD, and EP, and no enables",
+        b"A with TD, and EP, and wrong enables",
         12,
         0x0000_C001,
-        0x0300_0500,
+        0x0300_0510,
         0x9000_0010,
     );
     one(b"A with AT 1", 12, 0x0000_0401, 0x0300_050F, 0x9000_0010);
@@ -441,6 +461,8 @@ pub(crate) fn all() {
     bus_words();
     crossings();
     long_crossings();
+    flushes();
+    refused_flushes();
     forms();
     lengths();
     more_lengths();

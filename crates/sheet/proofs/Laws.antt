@@ -2,3 +2,4 @@
 pub mod Cases
 pub mod Short
 pub mod Witness
+pub mod Flush

@@ -159,6 +159,16 @@ caseKnone = record {
   row = 0x00040000 ∷ 18 ∷ 0 ∷ 0 ∷ 0 ∷ 0 ∷ [];
 }
 
+-- M. A with first enables 0: crosses (R-1)
+abbrev pub caseM : Case
+caseM = record {
+  sender = 1;
+  packet = wire (0x00000001 ∷ 0x03000500 ∷ 0x90000010 ∷ []);
+  answer = crossed (four (words 0x20000001 0x01460500 0x00000001 0x40000010) 0 16);
+  written = wire (0x20000001 ∷ 0x01460500 ∷ 0x00000001 ∷ 0x40000010 ∷ []);
+  row = empty;
+}
+
 -- the sheet's proved cases; L, which is of byte counts, stands beside them
 abbrev pub cases : List Case
-cases = caseA ∷ caseB ∷ caseC ∷ caseD ∷ caseE ∷ caseF ∷ caseG ∷ caseH ∷ caseI ∷ caseJ ∷ caseK ∷ caseKnone ∷ []
+cases = caseA ∷ caseB ∷ caseC ∷ caseD ∷ caseE ∷ caseF ∷ caseG ∷ caseH ∷ caseI ∷ caseJ ∷ caseK ∷ caseKnone ∷ caseM ∷ []

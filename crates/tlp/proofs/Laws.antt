@@ -2,4 +2,5 @@
 pub mod Count
 pub mod Write
 pub mod Form
+pub mod Flush
 pub mod Answer

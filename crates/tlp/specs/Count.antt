@@ -12,7 +12,7 @@ use Rattle.header.specs.declared.words.Header.{Header}
 abbrev pub enabled : ℕ → ℕ → Bool
 enabled i e = eqb (field i 1 e) 1
 
--- the place of "the lowest enabled byte"; 0 where none is
+-- the place of "the lowest enabled byte"; 0 where none is (R-1: "the low two bits of the lower address are 0")
 abbrev pub lowest : ℕ → ℕ
 lowest e = pick (enabled 0 e) 0 (pick (enabled 1 e) 1 (pick (enabled 2 e) 2 (pick (enabled 3 e) 3 0)))
 
@@ -20,7 +20,8 @@ lowest e = pick (enabled 0 e) 0 (pick (enabled 1 e) 1 (pick (enabled 2 e) 2 (pic
 abbrev pub highest : ℕ → ℕ
 highest e = pick (enabled 3 e) 3 (pick (enabled 2 e) 2 (pick (enabled 1 e) 1 0))
 
--- "Byte count": at Length 1 from the lowest place to the highest; above 1 all bytes, less what either end leaves out
+-- "Byte count": at Length 1 from the lowest place to the highest, so 1 where no byte is enabled (R-1: "the byte count is 1");
+-- above 1 all bytes, less what either end leaves out
 unfoldable pub byteCountOf : ℕ → ℕ → ℕ → ℕ
 byteCountOf n first last =
     pick (eqb n 1)

@@ -26,11 +26,11 @@ notCarried h = not (isCarried (kind h)) || hasDigest h || not (eqb (addressType 
 abbrev pub wrongLength : ℕ → Header → Bool
 wrongLength n h = not (eqb n (totalBytes h))
 
--- enables: at "Length 1", last 0 and first not 0; at "Length above 1", neither 0
+-- enables: at "Length 1", last 0, and first may be 0 as well (R-1); at "Length above 1", neither 0
 abbrev pub enablesBroken : Header → Bool
 enablesBroken h =
     pick (eqb (dwords h) 1)
-    (not (eqb (lastEnables h) 0) || eqb (firstEnables h) 0)
+    (not (eqb (lastEnables h) 0))
     (eqb (firstEnables h) 0 || eqb (lastEnables h) 0)
 
 -- the first enables have no gap up to the next dword: "1111, 1110, 1100, 1000"

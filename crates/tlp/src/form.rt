@@ -68,14 +68,14 @@ fn wrong_length(n: usize, h: Header) -> bool
     n != h.total_bytes()
 }
 
-// Enables: at Length 1 last 0 and first not 0, above 1 neither 0.
+// Enables: at Length 1 last 0, and first may be 0 as well: a flush. Above 1 neither 0.
 fn enables_broken(h: Header) -> bool
     ensures { λ r. ⌜ r ≡ enablesBroken h ⌝ }
 {
     let first = h.first_enables();
     let last = h.last_enables();
     if h.dwords() == 1 {
-        (last != 0) | (first == 0)
+        last != 0
     } else {
         (first == 0) | (last == 0)
     }

@@ -44,7 +44,7 @@ use Rattle.demands.proofs.Laws.Forms.{form-number}
 use Rattle.demands.proofs.Laws.Outgoing.{Words64, bus-lt, bus-id-lt, translation-lt, translation-pages, number-lt}
 
 -- a request that breaks no rule
-request-form : (s : List ℕ) → IsRequest s → WellFormed (length s) (headerOf s)
+pub request-form : (s : List ℕ) → IsRequest s → WellFormed (length s) (headerOf s)
 request-form s = ⊎-elim (λ e. inverted-read (length s) (headerOf s) (headerOf s) e .0) (λ e. inverted-write (length s) (headerOf s) (headerOf s) e .0)
 
 -- what breaks no rule is a request or a completion
@@ -75,7 +75,7 @@ crossed-sort c x e =
     sort (c .packet) (crossed-whole (packetOf (c .packet)) (c .sender) (busOf (c .numbers) (c .sender)) (c .windows) (c .numbers) x (b .2))
 
 -- no kind is a request's and a completion's
-two-kinds : (k : ℕ) → (isRead k || isWrite k) ≡ true → isCompletion k ≡ true → ⊥
+pub two-kinds : (k : ℕ) → (isRead k || isWrite k) ≡ true → isCompletion k ≡ true → ⊥
 two-kinds k r c = true≢false (sym r ∙ of-completions (λ (m : ℕ). isRead m || isWrite m) false refl refl k c)
 
 -- what crosses and is of a request's kind is a request

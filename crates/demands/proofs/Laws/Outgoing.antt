@@ -8,12 +8,14 @@ use mathlib.Core.Bool.{true}
 use mathlib.Core.List.{List}
 use native.Mathlib.Omega.{arith}
 use borrow.Author.Tests.{ltb-true}
+use lib.Dec.{eqb}
 use lib.ListN.{getD}
+use Rattle.header.specs.Pick.{pick}
 use Rattle.header.specs.Field.{field}
-use Rattle.header.specs.Fields.{requesterId, tag, address}
+use Rattle.header.specs.Fields.{dwords, requesterId, tag, address}
 use Rattle.header.specs.Rewrite.{readdressed}
 use Rattle.header.specs.declared.words.Header.{Header}
-use Rattle.header.proofs.Laws.Rewrite.{renamed-requester, renamed-tag, readdressed-word-1}
+use Rattle.header.proofs.Laws.Rewrite.{renamed-requester, renamed-keeps, readdressed-keeps-low, readdressed-word-1}
 use Rattle.windows.specs.Row.{rowAt, rowOf}
 use Rattle.windows.specs.Look.{lowestSlot}
 use Rattle.windows.specs.declared.look.Translation.{Translation}
@@ -72,12 +74,22 @@ module _ (p : ℕ) (h : Header) (windows numbers : List ℕ) (x : Sent) (k : p �
       ap (λ (y : Sent). requesterId (y .header)) (t .sent)
       ∙ renamed-requester (readdressed h (t .translation .address)) (mappedId (busOf numbers (t .translation .destination)) (t .index)) number-lt
 
-  -- the tag of the record is the request's
+  -- every field of the record's word 1 below the requester ID is the request's
+  pub sent-keeps : (i j : ℕ) → j + i ≤ 16 → field i j (x .header .w1) ≡ field i j (h .w1)
+  sent-keeps i j b =
+      ap (λ (y : Sent). field i j (y .header .w1)) (t .sent)
+      ∙ renamed-keeps (readdressed h (t .translation .address)) (mappedId (busOf numbers (t .translation .destination)) (t .index)) number-lt i j b
+      ∙ ap (field i j) (readdressed-word-1 h (t .translation .address) translation-lt)
+
+  -- so is the tag
   pub sent-tag : tag (x .header) ≡ tag h
-  sent-tag =
-      ap (λ (y : Sent). tag (y .header)) (t .sent)
-      ∙ renamed-tag (readdressed h (t .translation .address)) (mappedId (busOf numbers (t .translation .destination)) (t .index)) number-lt
-      ∙ ap (field 8 8) (readdressed-word-1 h (t .translation .address) translation-lt)
+  sent-tag = sent-keeps 8 8 (omega arith)
+
+  -- and the Length, in word 0
+  pub sent-dwords : dwords (x .header) ≡ dwords h
+  sent-dwords =
+      ap (λ (y : Sent). dwords (y .header)) (t .sent)
+      ∙ ap (λ (k : ℕ). pick (eqb k 0) 1024 k) (readdressed-keeps-low h (t .translation .address) translation-lt 0 10 (omega arith))
 
   -- the index is what the record's requester ID says
   pub sent-index : requesterId (x .header) % 64 ≡ t .index

@@ -30,18 +30,18 @@ use Rattle.sheet.specs.Cases.{Case, four, words, caseA, caseB}
 use Rattle.sheet.proofs.Laws.Cases.{long-enough}
 
 -- every word of a list is below n, as a test
-abbrev allBelow : ℕ → List ℕ → Bool
+abbrev pub allBelow : ℕ → List ℕ → Bool
 allBelow n [] = true
 allBelow n (x ∷ l) = ltb x n && allBelow n l
 
 -- so it is at every place, where none counts as 0
-below : (n : ℕ) (l : List ℕ) → allBelow n l ≡ true → 0 < n → (i : ℕ) → getD l i 0 < n
+pub below : (n : ℕ) (l : List ℕ) → allBelow n l ≡ true → 0 < n → (i : ℕ) → getD l i 0 < n
 below n [] e z i = z
 below n (x ∷ l) e z zero = ltb-true x n (both (ltb x n) (allBelow n l) e .0)
 below n (x ∷ l) e z (suc i) = below n l (both (ltb x n) (allBelow n l) e .1) z i
 
 -- the sheet's windows are words of 64 bits
-windows-fit : (i : ℕ) → getD windows i 0 < 2 ^ 64
+pub windows-fit : (i : ℕ) → getD windows i 0 < 2 ^ 64
 unfolding windows
 windows-fit i = below (2 ^ 64) windows refl (omega arith) i
 

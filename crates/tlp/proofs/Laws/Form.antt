@@ -176,9 +176,9 @@ with-bit-5 k b c p n =
 -- the rules on the enables read them, the Length and whether gaps are allowed
 enables-same : (g h : Header) → dwords g ≡ dwords h → firstEnables g ≡ firstEnables h → lastEnables g ≡ lastEnables h → enablesBroken g ≡ enablesBroken h
 enables-same g h p q r =
-    ap (λ (k : ℕ). pick (eqb k 1) (not (eqb (lastEnables g) 0) || eqb (firstEnables g) 0) (eqb (firstEnables g) 0 || eqb (lastEnables g) 0)) p
-    ∙ ap (λ (k : ℕ). pick (eqb (dwords h) 1) (not (eqb (lastEnables g) 0) || eqb k 0) (eqb k 0 || eqb (lastEnables g) 0)) q
-    ∙ ap (λ (k : ℕ). pick (eqb (dwords h) 1) (not (eqb k 0) || eqb (firstEnables h) 0) (eqb (firstEnables h) 0 || eqb k 0)) r
+    ap (λ (k : ℕ). pick (eqb k 1) (not (eqb (lastEnables g) 0)) (eqb (firstEnables g) 0 || eqb (lastEnables g) 0)) p
+    ∙ ap (λ (k : ℕ). pick (eqb (dwords h) 1) (not (eqb (lastEnables g) 0)) (eqb k 0 || eqb (lastEnables g) 0)) q
+    ∙ ap (λ (k : ℕ). pick (eqb (dwords h) 1) (not (eqb k 0)) (eqb (firstEnables h) 0 || eqb k 0)) r
 
 contiguity-same : (g h : Header) → gapsAllowed g ≡ gapsAllowed h → firstEnables g ≡ firstEnables h → lastEnables g ≡ lastEnables h → contiguityBroken g ≡ contiguityBroken h
 contiguity-same g h p q r =

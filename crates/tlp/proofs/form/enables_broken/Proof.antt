@@ -1,4 +1,4 @@
--- By the Length: each case tests the two enables as the rule has it. Assumes nothing.
+-- By the Length: each case tests the enables that the rule names. Assumes nothing.
 use borrow.Author.Needs.{needs}
 use Rattle.header.proofs.Laws.Pick.{decide}
 use Rattle.tlp.proofs.form.enables_broken.Statement.{statement}
