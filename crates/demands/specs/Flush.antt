@@ -21,12 +21,20 @@ pub record Flush (s : List ℕ) : Type 0 where
   pub none-first : firstEnables (headerOf s) ≡ 0
   pub none-last : lastEnables (headerOf s) ≡ 0
 
--- "3 no longer for this": a flush that is long enough, of a carried kind, of the right length and without a zero high word is read as the
--- request that it is; no rule on enables, gaps or pages refuses it
+-- the rules of form that are left for it: long enough, of a carried kind, of the right length, and without a zero high word
+pub record RestKept (s : List ℕ) : Type 0 where
+  pub long : tooShort (length s) ≡ false
+  pub carried : notCarried (headerOf s) ≡ false
+  pub whole : wrongLength (length s) (headerOf s) ≡ false
+  pub high : zeroHighWord (headerOf s) ≡ false
+
+-- a flush that keeps these is read as the request that it is: no rule on enables, gaps or pages refuses it
 abbrev pub FlushWellFormed : Type 0
-FlushWellFormed =
-    (s : List ℕ) → Flush s → tooShort (length s) ≡ false → notCarried (headerOf s) ≡ false → wrongLength (length s) (headerOf s) ≡ false
-    → zeroHighWord (headerOf s) ≡ false → packetOf s ≡ requestOf (headerOf s)
+FlushWellFormed = (s : List ℕ) → Flush s → RestKept s → packetOf s ≡ requestOf (headerOf s)
+
+-- "3 no longer for this"
+abbrev pub FlushNever3 : Type 0
+FlushNever3 = (c : Call) → Flush (c .packet) → RestKept (c .packet) → answerOf c ≡ dropped 3 → ⊥
 
 -- a read, flush or not, is answered by 5 and above, and never dropped by them
 abbrev pub RefusedReadsAnswered : Type 0

@@ -43,7 +43,7 @@ use Rattle.switch.specs.Answer.{Answer, crossed, answered, dropped}
 use Rattle.switch.specs.Rule.{wrongCall, busId, mappedId, refused, toDestination, throughEntry, throughWindow, requestRule, packetRule, passRule}
 use Rattle.switch.specs.After.{dataOf}
 use Rattle.demands.specs.Call.{Call, answerOf, cameOut, isRequest, Lent}
-use Rattle.demands.specs.Flush.{Flush, FlushWellFormed, RefusedReadsAnswered, FlushAnswered, FlushCameOut, FlushCrosses}
+use Rattle.demands.specs.Flush.{Flush, FlushWellFormed, FlushNever3, RefusedReadsAnswered, FlushAnswered, FlushCameOut, FlushCrosses}
 use Rattle.demands.proofs.Laws.CameOut.{two-kinds, crossed-request, request-form, came-out-whole}
 use Rattle.demands.proofs.Laws.Crossing.{Through, request-crossed}
 use Rattle.demands.proofs.Laws.Forms.{form-number}
@@ -60,33 +60,64 @@ no-completion k r = by-test (isCompletion k) refl
 
 -- no flush is refused for its enables
 pub flush-well-formed : FlushWellFormed
-flush-well-formed s f long carried whole high =
+flush-well-formed s f r =
     let h = headerOf s in
-    accepted (length s) h (flush-form h (f .one-dword) (f .none-first) (length s) (f .none-last) long carried whole (no-completion (kind h) (f .request)) high)
+    accepted (length s) h
+    (flush-form h (f .one-dword) (f .none-first) (length s) (f .none-last) (r .long) (r .carried) (r .whole) (no-completion (kind h) (f .request)) (r .high))
 
--- what is dropped
-abbrev IsDropped : Answer → Type 0
-IsDropped (crossed x) = ⊥
-IsDropped (answered n x) = ⊥
-IsDropped (dropped n) = Unit {0}
+-- what is said of the answer to a request: no read is dropped, and a write by 5 and above alone
+abbrev Late : Bool → Answer → Type 0
+Late reading (crossed x) = Unit {0}
+Late reading (answered n x) = Unit {0}
+Late reading (dropped n) = (reading ≡ false) × (5 ≤ n)
 
--- a read that is asked of the tables is not dropped
-read-kept : (p bus : ℕ) (h : Header) (windows numbers : List ℕ) → IsDropped (requestRule true p bus h windows numbers) → ⊥
-unfolding pick requestRule refused toDestination
-read-kept p bus h windows numbers = either (λ (a : Answer). IsDropped a → ⊥) (isPoisoned h) (λ _ x. x) (λ _. by-look (lookUp windows p (address h)))
-  where
-    by-found : (f : Found) (t : Translation) → IsDropped (throughEntry f true p bus h t numbers) → ⊥
-    by-found Nothing t = λ x. x
-    by-found (At i) t = either (λ (a : Answer). IsDropped a → ⊥) (not (isActive numbers (t .destination))) (λ _ x. x) (λ _ x. x)
+module _ (reading : Bool) (p bus : ℕ) (h : Header) (windows numbers : List ℕ) where
+  refused-late : (n : ℕ) → 5 ≤ n → Late reading (refused reading n p bus h)
+  unfolding refused
+  refused-late n a = either (Late reading) reading (λ _. tt) (λ e. (e, a))
 
-    by-look : (l : Look) → IsDropped (throughWindow l true p bus h numbers) → ⊥
-    by-look Shut = λ x. x
-    by-look (Open t) = by-found (entryOf numbers p (requesterId h)) t
+  entry-late : (f : Found) (t : Translation) → Late reading (throughEntry f reading p bus h t numbers)
+  unfolding toDestination
+  entry-late Nothing t = refused-late 7 (omega arith)
+  entry-late (At i) t = either (Late reading) (not (isActive numbers (t .destination))) (λ _. refused-late 8 (omega arith)) (λ _. tt)
 
--- nor by 5 and above, whatever was read: 3 and 4 are dropped, and a write or a completion is no read
+  window-late : (l : Look) → Late reading (throughWindow l reading p bus h numbers)
+  window-late Shut = refused-late 6 (omega arith)
+  window-late (Open t) = entry-late (entryOf numbers p (requesterId h)) t
+
+  request-late : Late reading (requestRule reading p bus h windows numbers)
+  unfolding requestRule
+  request-late = either (Late reading) (isPoisoned h) (λ _. refused-late 5 (omega arith)) (λ _. window-late (lookUp windows p (address h)))
+
+-- a packet's own refusals come after 1 and 2
+module _ (c : Call) (n : ℕ) (a : 3 ≤ n) where
+  after-2 : (packetRule (packetOf (c .packet)) (c .sender) (busOf (c .numbers) (c .sender)) (c .windows) (c .numbers) ≡ dropped n → ⊥) → answerOf c ≡ dropped n → ⊥
+  unfolding passRule
+  after-2 f =
+      let p = c .sender in
+      let never : Answer → Type 0 = λ x. x ≡ dropped n → ⊥ in
+      either never (wrongCall p (length (c .windows)) (length (c .numbers)) (length (c .logs)) (length (c .out)))
+      (λ _ e. let same : 1 ≡ n = cc in omega (arith, same))
+      (λ _. either never (not (isActive (c .numbers) p)) (λ _ e. let same : 2 ≡ n = cc in omega (arith, same)) (λ _. f))
+
+-- a flush that keeps the other rules is not refused by 3
+pub flush-never-3 : FlushNever3
+flush-never-3 c f r =
+    let p = c .sender in
+    let h = headerOf (c .packet) in
+    let bus = busOf (c .numbers) p in
+    let rule : Packet → Answer = λ k. packetRule k p bus (c .windows) (c .numbers) in
+    let never : Packet → Type 0 = λ k. rule k ≡ dropped 3 → ⊥ in
+    after-2 c 3 (omega arith)
+    (subst never (sym (flush-well-formed (c .packet) f r))
+    (either never (isRead (kind h))
+    (λ _ e. true≢false (subst (Late true) e (request-late true p bus h (c .windows) (c .numbers)) .0))
+    (λ _ e. let late : 5 ≤ 3 = subst (Late false) e (request-late false p bus h (c .windows) (c .numbers)) .1 in omega (arith, late))))
+
+-- no read is dropped by 5 and above, whatever was read: 3 and 4 are dropped, and a write or a completion is no read
 read-answered : (s : List ℕ) (k : Packet) (p bus : ℕ) (windows numbers : List ℕ) (n : ℕ) → packetOf s ≡ k → isRead (kind (headerOf s)) ≡ true → 5 ≤ n
     → packetRule k p bus windows numbers ≡ dropped n → ⊥
-read-answered s (Read h) p bus windows numbers n q r a e = read-kept p bus h windows numbers (subst IsDropped (sym e) tt)
+read-answered s (Read h) p bus windows numbers n q r a e = true≢false (subst (Late true) e (request-late true p bus h windows numbers) .0)
 read-answered s (Write h) p bus windows numbers n q r a e = true≢false (sym r ∙ inverted-write (length s) (headerOf s) h q .1)
 read-answered s (Completion h) p bus windows numbers n q r a e =
     two-kinds (kind (headerOf s)) (ap (λ (t : Bool). t || isWrite (kind (headerOf s))) r) (inverted-completion (length s) (headerOf s) h q .0 .completion)
@@ -94,17 +125,10 @@ read-answered s (Broken f) p bus windows numbers n q r a e =
     let same : ruleNumber f ≡ n = cc in
     absurd (omega (arith, form-number f, same))
 
--- a read is never dropped by 5 and above
+-- so a read that they refuse is answered
 pub refused-reads-answered : RefusedReadsAnswered
-unfolding passRule
 refused-reads-answered c n r a =
-    let p = c .sender in
-    let never : Answer → Type 0 = λ x. x ≡ dropped n → ⊥ in
-    either never (wrongCall p (length (c .windows)) (length (c .numbers)) (length (c .logs)) (length (c .out)))
-    (λ _ e. let same : 1 ≡ n = cc in omega (arith, same))
-    (λ _. either never (not (isActive (c .numbers) p))
-    (λ _ e. let same : 2 ≡ n = cc in omega (arith, same))
-    (λ _. read-answered (c .packet) (packetOf (c .packet)) p (busOf (c .numbers) p) (c .windows) (c .numbers) n refl r a))
+    after-2 c n (omega arith) (read-answered (c .packet) (packetOf (c .packet)) (c .sender) (busOf (c .numbers) (c .sender)) (c .windows) (c .numbers) n refl r a)
 
 -- what an answered call's answer is
 answers : (c : Call) (n : ℕ) (x : Sent) → answerOf c ≡ answered n x → Answers c n x
