@@ -69,6 +69,13 @@ fn aligned(address: u64, k: u32) -> u64 {
     address >> k << k
 }
 
+/// A bit that a multiple of 2^k has not: every other time the highest such, which leaves one zero too few.
+fn bit_below(random: &mut Random, k: u32) -> u64 {
+    let bits = k.clamp(1, 63);
+    let place = if random.one_in(2) { bits - 1 } else { random.below(bits) };
+    1 << place
+}
+
 /// A base or a target: low, just below 4 GiB, at 4 GiB, high, at the end, anywhere.
 fn place(random: &mut Random, k: u32) -> u64 {
     let size = 1u64 << k.min(63);
@@ -95,7 +102,7 @@ pub fn set_window(random: &mut Random, bench: &Bench, p: u32) -> Record {
         span_near(random, window.base, window.k)
     };
     let mut target = place(random, k);
-    let bit = 1u64 << random.below(k.clamp(1, 63));
+    let bit = bit_below(random, k);
     match random.below(32) {
         0 => base |= bit,
         1 => target |= bit,
@@ -213,15 +220,15 @@ fn spoiled_row(random: &mut Random, bench: &Bench) -> Vec<Record> {
     let row = 3 * (start..256).find(used).unwrap_or(start);
     let (base, target) = (bench.windows[row], bench.windows[row + 1]);
     let control = bench.windows[row + 2];
-    let below_k = 1u64 << random.below((control & 0x3F).max(1) as u32);
+    let bit = bit_below(random, (control & 0x3F) as u32);
     let own = (row / 48) as u64;
     let (word, value) = match random.below(8) {
         0 => (2, control & !0xFF | random.pick(&[11, 11, 40, 40, 0, 255])),
         1 => (2, control | 1 << random.pick(&[13, 13, 14, 31, 32, 63])),
         2 => (2, control & !0xF00 | own << 8),
         3 => (2, control ^ 1 << 12),
-        4 => (0, base | below_k),
-        5 => (1, target | below_k),
+        4 => (0, base | bit),
+        5 => (1, target | bit),
         6 => (2, 0x1000 | random.draw() & 0xFFF),
         _ => (random.below(3) as usize, random.draw()),
     };

@@ -163,7 +163,8 @@ fn done_number(done: model::Done) -> u32 {
     }
 }
 
-fn wide(high: u32, low: u32) -> u64 {
+/// A number of 64 bits from its two halves.
+pub fn wide(high: u32, low: u32) -> u64 {
     u64::from(high) << 32 | u64::from(low)
 }
 

@@ -7,8 +7,8 @@ use std::collections::BTreeMap;
 /// A long run reaches every refusal and every crossing so often at least.
 const ENOUGH: u64 = 100;
 
-/// And each outcome of a flush at least so often.
-const ENOUGH_FLUSHES: u64 = 25;
+/// And each outcome of a flush, and each fit of a base or target, at least so often.
+const ENOUGH_OF_EACH: u64 = 25;
 
 /// The crossings: the kind that went in and the kind that came out.
 const CROSSINGS: [(u8, u8); 10] = [
@@ -22,6 +22,12 @@ const FLUSHES: [(&str, &str, u32); 10] = [
     ("read", "answered", 7), ("read", "answered", 8), ("write", "crossed", 0),
     ("write", "dropped", 5), ("write", "dropped", 6), ("write", "dropped", 7),
     ("write", "dropped", 8),
+];
+
+/// What becomes of windows that are set with a size in range: by base or target, its low zeros against k, and the answer.
+const FITS: [(&str, &str, u32); 8] = [
+    ("base", "all zeros", 0), ("base", "more zeros", 0), ("base", "just k zeros", 0), ("base", "one zero too few", 10),
+    ("target", "all zeros", 0), ("target", "more zeros", 0), ("target", "just k zeros", 0), ("target", "one zero too few", 10),
 ];
 
 /// The names of the calls, from 1 on.
@@ -49,6 +55,25 @@ fn flush(packet: &[u8]) -> Option<&'static str> {
     }
 }
 
+/// How many low zeros a base or a target has, against the k that it must fit.
+fn fit(place: u64, k: u32) -> &'static str {
+    match place.trailing_zeros() {
+        64 => "all zeros",
+        zeros if zeros > k => "more zeros",
+        zeros if zeros == k => "just k zeros",
+        zeros if zeros + 1 == k => "one zero too few",
+        _ => "fewer zeros",
+    }
+}
+
+/// A fit of a base or target, and what the call answered.
+fn fitting((name, fit, number): (&str, &str, u32)) -> String {
+    match number {
+        0 => format!("{name} with {fit}: done"),
+        _ => format!("{name} with {fit}: {number}"),
+    }
+}
+
 /// A name and a number that is not 0.
 fn numbered(name: &str, number: u32) -> String {
     if number == 0 {
@@ -66,6 +91,7 @@ pub struct Tally {
     outcomes: BTreeMap<(&'static str, u32), u64>,
     crossings: BTreeMap<(u8, u8), u64>,
     flushes: BTreeMap<(&'static str, &'static str, u32), u64>,
+    fits: BTreeMap<(&'static str, &'static str, u32), u64>,
     calls: BTreeMap<(u32, u32), u64>,
 }
 
@@ -77,6 +103,7 @@ impl Tally {
             None => {
                 self.others += 1;
                 *self.calls.entry((record.call, number)).or_insert(0) += 1;
+                self.note_window(record, number);
                 return;
             }
         };
@@ -96,6 +123,18 @@ impl Tally {
         }
     }
 
+    /// Counts how base and target of a window that is set fit its size, where the size is in range.
+    fn note_window(&mut self, record: &Record, number: u32) {
+        let [_, _, base_high, base, target_high, target, k, _] = record.with;
+        if record.call != stream::SET_WINDOW || !(12..=39).contains(&k) {
+            return;
+        }
+        let places = [("base", stream::wide(base_high, base)), ("target", stream::wide(target_high, target))];
+        for (name, place) in places {
+            *self.fits.entry((name, fit(place, k), number)).or_insert(0) += 1;
+        }
+    }
+
     /// The counts as a text.
     pub fn text(&self) -> String {
         let mut text = String::from("packets:\n");
@@ -110,6 +149,10 @@ impl Tally {
         for (&(kind, name, number), count) in &self.flushes {
             let outcome = numbered(name, number);
             text.push_str(&format!("  {:<24}{count:>10}\n", format!("{kind} {outcome}")));
+        }
+        text.push_str("set a window, k in range:\n");
+        for (&fit, count) in &self.fits {
+            text.push_str(&format!("  {:<32}{count:>10}\n", fitting(fit)));
         }
         text.push_str("other calls:\n");
         for (&(call, number), count) in &self.calls {
@@ -145,9 +188,15 @@ impl Tally {
         }
         for flush in FLUSHES {
             let count = self.flushes.get(&flush).copied().unwrap_or(0);
-            if count < ENOUGH_FLUSHES {
+            if count < ENOUGH_OF_EACH {
                 let outcome = numbered(flush.1, flush.2);
                 rare.push(format!("flush {} {outcome} ({count} times)", flush.0));
+            }
+        }
+        for fit in FITS {
+            let count = self.fits.get(&fit).copied().unwrap_or(0);
+            if count < ENOUGH_OF_EACH {
+                rare.push(format!("{} ({count} times)", fitting(fit)));
             }
         }
         rare

@@ -1,5 +1,6 @@
 //! Nanoseconds a packet: the proved library, the second program's passing function, and plain C, on the same packets and the
 //! same tables in one run; and memcpy of 4,096 bytes. Median of 15 rounds, in each of which every one of them has its turn.
+//! Under `--cfg before` the proved library of another checkout is one more of them, its names with `before_` in front.
 
 #[path = "../second/model.rs"]
 #[allow(dead_code)]
@@ -8,7 +9,6 @@ mod model;
 mod cases;
 
 use cases::{Case, Tables};
-use std::hint::black_box;
 use std::time::Instant;
 
 /// How many rounds there are; the median of them counts.
@@ -38,6 +38,16 @@ extern "C" {
     fn plain_set_window(
         p: u32, slot: u32, base: u64, target: u64, k: u32, q: u32, windows: *mut u64, windows_length: usize,
     ) -> u32;
+    #[cfg(before)]
+    fn before_siphon_pass(
+        p: u32, packet: *const u8, n: usize, windows: *const u64, windows_length: usize, numbers: *mut u32,
+        numbers_length: usize, logs: *mut u32, logs_length: usize, out: *mut u8, out_length: usize, answer: *mut u32,
+        answer_length: usize,
+    ) -> u32;
+    #[cfg(before)]
+    fn before_siphon_set_window(
+        p: u32, slot: u32, base: u64, target: u64, k: u32, q: u32, windows: *mut u64, windows_length: usize,
+    ) -> u32;
 }
 
 /// Passes a packet by a function with C's parameters.
@@ -51,9 +61,22 @@ fn by(pass: Pass, p: u32, packet: &[u8], t: &mut Tables) -> u32 {
     }
 }
 
+fn proved(p: u32, packet: &[u8], t: &mut Tables) -> u32 {
+    by(siphon_pass, p, packet, t)
+}
+
+fn plain(p: u32, packet: &[u8], t: &mut Tables) -> u32 {
+    by(plain_pass, p, packet, t)
+}
+
+#[cfg(before)]
+fn before(p: u32, packet: &[u8], t: &mut Tables) -> u32 {
+    by(before_siphon_pass, p, packet, t)
+}
+
 /// Passes a packet by the second program's function, and writes the same eight words.
 #[inline(never)]
-fn by_second(p: u32, packet: &[u8], t: &mut Tables) -> u32 {
+fn second(p: u32, packet: &[u8], t: &mut Tables) -> u32 {
     let (number, outcome, record) = match model::pass(p, packet, &t.windows, &t.numbers, &mut t.logs, &mut t.out) {
         model::Outcome::Crossed(r) => (0, 0, Some(r)),
         model::Outcome::Answered(n, r) => (n, 1, Some(r)),
@@ -69,21 +92,34 @@ fn by_second(p: u32, packet: &[u8], t: &mut Tables) -> u32 {
     number
 }
 
+/// Hides a value from the compiler. Rust's library has such a function from 1.66 on.
+fn black_box<T>(value: T) -> T {
+    // One of the two copies is forgotten, so the value is dropped once.
+    unsafe {
+        let hidden = std::ptr::read_volatile(&value);
+        std::mem::forget(value);
+        hidden
+    }
+}
+
+/// Something that is run again and again, by a number that counts up.
+type Run<'a> = Box<dyn Fn(usize, &mut Tables) + 'a>;
+
 /// Runs something n times, and answers nanoseconds for each.
-fn turn(n: usize, run: &mut dyn FnMut(usize)) -> f64 {
+fn turn(n: usize, tables: &mut Tables, run: &Run) -> f64 {
     let start = Instant::now();
     for i in 0..n {
-        run(i);
+        run(i, tables);
     }
     start.elapsed().as_nanos() as f64 / n as f64
 }
 
 /// How often to run something so that a turn takes its time.
-fn turns(run: &mut dyn FnMut(usize)) -> usize {
+fn turns(tables: &mut Tables, run: &Run) -> usize {
     let mut n = 64;
     loop {
         let start = Instant::now();
-        turn(n, run);
+        turn(n, tables, run);
         let took = start.elapsed().as_nanos();
         if took * 4 > TURN {
             return (n as u128 * TURN / took.max(1)).max(1) as usize;
@@ -92,13 +128,13 @@ fn turns(run: &mut dyn FnMut(usize)) -> usize {
     }
 }
 
-/// The median of each runner's rounds.
-fn medians(runs: &mut [&mut dyn FnMut(usize)]) -> Vec<f64> {
-    let counts: Vec<usize> = runs.iter_mut().map(|run| turns(*run)).collect();
+/// The median of each run's rounds. All go over the same tables, since where these lie in memory makes a difference of its own.
+fn medians(mut tables: Tables, runs: &[Run]) -> Vec<f64> {
+    let counts: Vec<usize> = runs.iter().map(|run| turns(&mut tables, run)).collect();
     let mut times = vec![Vec::new(); runs.len()];
     for _ in 0..ROUNDS {
-        for (i, run) in runs.iter_mut().enumerate() {
-            times[i].push(turn(counts[i], *run));
+        for (i, run) in runs.iter().enumerate() {
+            times[i].push(turn(counts[i], &mut tables, run));
         }
     }
     times
@@ -110,74 +146,125 @@ fn medians(runs: &mut [&mut dyn FnMut(usize)]) -> Vec<f64> {
         .collect()
 }
 
-/// The three ways to pass a case's packets, each on tables of its own.
-fn pass_case(case: &Case) -> Vec<f64> {
-    let (mut a, mut b, mut c) = (case.tables.clone(), case.tables.clone(), case.tables.clone());
+/// Passes a case's packets in turn.
+fn passing<'a>(case: &'a Case, pass: impl Fn(u32, &[u8], &mut Tables) -> u32 + 'a) -> Run<'a> {
     let n = case.packets.len();
-    let mut proved = |i: usize| {
+    Box::new(move |i, tables| {
         let (p, packet) = &case.packets[i % n];
-        black_box(by(siphon_pass, *p, black_box(packet), &mut a));
-    };
-    let mut second = |i: usize| {
-        let (p, packet) = &case.packets[i % n];
-        black_box(by_second(*p, black_box(packet), &mut b));
-    };
-    let mut plain = |i: usize| {
-        let (p, packet) = &case.packets[i % n];
-        black_box(by(plain_pass, *p, black_box(packet), &mut c));
-    };
-    medians(&mut [&mut proved, &mut second, &mut plain])
-}
-
-/// Setting a window by a function with C's parameters.
-fn set(call: SetWindow, windows: &mut [u64], i: usize) -> u32 {
-    let base = 0x9000_0000 + (i as u64 % 16) * 0x10_0000;
-    // As above: a slice that lives through the call.
-    unsafe { call(1, 15, base, 0x1_4000_0000, 20, 0, windows.as_mut_ptr(), windows.len()) }
-}
-
-/// The three ways to set a window, over fifteen others.
-fn set_window() -> Vec<f64> {
-    let tables = cases::full();
-    let (mut a, mut b, mut c) = (tables.windows.clone(), tables.windows.clone(), tables.windows.clone());
-    let mut proved = |i: usize| {
-        black_box(set(siphon_set_window, &mut a, i));
-    };
-    let mut second = |i: usize| {
-        let base = 0x9000_0000 + (i as u64 % 16) * 0x10_0000;
-        let _ = black_box(model::set_window(1, 15, (base, 0x1_4000_0000), 20, 0, &mut b));
-    };
-    let mut plain = |i: usize| {
-        black_box(set(plain_set_window, &mut c, i));
-    };
-    medians(&mut [&mut proved, &mut second, &mut plain])
-}
-
-/// The three must agree on every packet before they are measured.
-fn agree(case: &Case) -> bool {
-    let (mut a, mut b, mut c) = (case.tables.clone(), case.tables.clone(), case.tables.clone());
-    case.packets.iter().all(|(p, packet)| {
-        let numbers = [by(siphon_pass, *p, packet, &mut a), by_second(*p, packet, &mut b), by(plain_pass, *p, packet, &mut c)];
-        numbers[0] == numbers[1] && numbers[1] == numbers[2] && a == b && b == c
+        black_box(pass(*p, black_box(packet), tables));
     })
 }
 
+/// The ways to pass a case's packets.
+fn pass_case(case: &Case) -> Vec<f64> {
+    let runs = [
+        passing(case, proved),
+        passing(case, second),
+        passing(case, plain),
+        #[cfg(before)]
+        passing(case, before),
+    ];
+    medians(case.tables.clone(), &runs)
+}
+
+/// Sets a window of partition 1 by a function with C's parameters.
+fn by_set(set: SetWindow, base: u64, windows: &mut [u64]) -> u32 {
+    // As above: a slice that lives through the call.
+    unsafe { set(1, 15, base, 0x1_4000_0000, 20, 0, windows.as_mut_ptr(), windows.len()) }
+}
+
+fn proved_set(base: u64, windows: &mut [u64]) -> u32 {
+    by_set(siphon_set_window, base, windows)
+}
+
+fn plain_set(base: u64, windows: &mut [u64]) -> u32 {
+    by_set(plain_set_window, base, windows)
+}
+
+#[cfg(before)]
+fn before_set(base: u64, windows: &mut [u64]) -> u32 {
+    by_set(before_siphon_set_window, base, windows)
+}
+
+/// Sets a window by the second program's function, to which no parameter is known beforehand, as to the others.
+fn second_set(base: u64, windows: &mut [u64]) -> u32 {
+    let [p, slot, k, q] = black_box([1, 15, 20, 0]);
+    let target = black_box(0x1_4000_0000);
+    model::set_window(p, slot, (base, target), k, q, windows).err().unwrap_or(0)
+}
+
+/// Sets a window over fifteen others, each time a little further.
+fn setting<'a>(set: impl Fn(u64, &mut [u64]) -> u32 + 'a) -> Run<'a> {
+    Box::new(move |i, tables| {
+        black_box(set(0x9000_0000 + (i as u64 % 16) * 0x10_0000, &mut tables.windows));
+    })
+}
+
+/// The ways to set a window.
+fn set_window() -> Vec<f64> {
+    let runs = [
+        setting(proved_set),
+        setting(second_set),
+        setting(plain_set),
+        #[cfg(before)]
+        setting(before_set),
+    ];
+    medians(cases::full(), &runs)
+}
+
+/// One of the others: its name, and how it passes a packet and sets a window.
+type Other = (&'static str, fn(u32, &[u8], &mut Tables) -> u32, fn(u64, &mut [u64]) -> u32);
+
+/// Those with which the proved library must agree before all are measured.
+const OTHERS: &[Other] = &[
+    ("Rust", second, second_set),
+    ("C", plain, plain_set),
+    #[cfg(before)]
+    ("before", before, before_set),
+];
+
+/// Whether another agrees on every packet of a case.
+fn agrees(case: &Case, other: &Other) -> bool {
+    let (mut a, mut b) = (case.tables.clone(), case.tables.clone());
+    case.packets.iter().all(|(p, packet)| proved(*p, packet, &mut a) == other.1(*p, packet, &mut b) && a == b)
+}
+
+/// Whether another agrees on windows that are set: at zero, with zeros enough, with one too few, over another.
+fn agrees_on_windows(other: &Other) -> bool {
+    let (mut a, mut b) = (cases::full().windows, cases::full().windows);
+    let bases = [0, 0x9000_0000, 0x9010_0000, 0x9008_0000, 0x9000_1000, 0x9000_0001, 0x1000_0000];
+    bases.iter().all(|&base| proved_set(base, &mut a) == other.2(base, &mut b) && a == b)
+}
+
+/// Says with whom the proved library does not agree on what, and ends.
+fn differ(other: &Other, what: &str) -> ! {
+    eprintln!("speed: the proved library and {} do not agree on '{what}'", other.0);
+    std::process::exit(1);
+}
+
+/// A row of the table: proved, Rust, C, proved to the faster of them; and, where there is one, before, and proved to it.
 fn row(name: &str, t: &[f64]) {
-    let fastest = t[1].min(t[2]);
-    println!("{:<34}{:>9.1}{:>9.1}{:>9.1}{:>12.2}", name, t[0], t[1], t[2], t[0] / fastest);
+    print!("{:<34}{:>9.1}{:>9.1}{:>9.1}{:>12.2}", name, t[0], t[1], t[2], t[0] / t[1].min(t[2]));
+    for before in &t[3..] {
+        print!("{:>9.1}{:>11.2}", before, t[0] / before);
+    }
+    println!();
 }
 
 fn main() {
-    println!("{:<34}{:>9}{:>9}{:>9}{:>12}", "ns a packet, median of 15", "proved", "Rust", "C", "to faster");
+    print!("{:<34}{:>9}{:>9}{:>9}{:>12}", "ns a packet, median of 15", "proved", "Rust", "C", "to faster");
+    println!("{}", if cfg!(before) { "   before  to before" } else { "" });
     for case in cases::all() {
-        if !agree(&case) {
-            eprintln!("speed: the three do not agree on the packets of '{}'", case.name);
-            std::process::exit(1);
+        if let Some(other) = OTHERS.iter().find(|other| !agrees(&case, other)) {
+            differ(other, case.name);
         }
         row(case.name, &pass_case(&case));
     }
+    if let Some(other) = OTHERS.iter().find(|other| !agrees_on_windows(other)) {
+        differ(other, "set a window");
+    }
     row("set a window", &set_window());
-    let (from, mut to) = (vec![1u8; 4096], vec![0u8; 4096]);
-    let mut copy = |_: usize| black_box(&mut to).copy_from_slice(black_box(&from));
-    println!("{:<34}{:>9.1}", "memcpy of 4,096 bytes", medians(&mut [&mut copy])[0]);
+    let from = [1; 4096];
+    let copy: Run = Box::new(|_, tables| black_box(&mut tables.out[..4096]).copy_from_slice(black_box(&from)));
+    println!("{:<34}{:>9.1}", "memcpy of 4,096 bytes", medians(cases::full(), &[copy])[0]);
 }

@@ -32,7 +32,15 @@ expect 'and with a wrong one' has err 'got: many'
 siphon soak 10 --seed
 expect 'and with a seed that is none' [ "$status" -eq 2 ]
 siphon speed now
-expect 'speed takes no word' [ "$status" -eq 2 ]
+expect 'speed with an unknown word is refused' [ "$status" -eq 2 ]
+expect 'and the word named' has err 'got: now'
+siphon speed --before
+expect 'and without the other folder' has err 'got: --before'
+for folder in '' tests nowhere; do
+    siphon speed --before "$folder"
+    expect "and with '$folder', which is no checkout" [ "$status" -eq 2 ]
+    expect "and '$folder' named" has err "got: $folder\$"
+done
 
 # A repository of its own, with a stand-in for rt and one test. Each case: what the gate must be and its last line; what
 # rt ci prints and its status; what the test prints and its status; the status of the layout check.

@@ -1,4 +1,5 @@
 -- Laws of the table of windows.
+pub mod Aligned
 pub mod Row
 pub mod Look
 pub mod Overlap

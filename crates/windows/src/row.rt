@@ -114,12 +114,15 @@ pub fn is_sized(k: u32) -> bool
     (12 <= k) & (k <= 39)
 }
 
-// "A multiple of 2^k"
+// "A multiple of 2^k", by R-2 as the hardware reads it: "enough low zero bits fit a size; zero fits every
+// size". The multiples of 2^k are the numbers whose k lowest bits are 0. So count the zeros below the
+// lowest 1: 0x9010_0000 has 20 of them, and fits 2^20 and every smaller size, but not 2^21. Zero has no 1
+// to end the count: all its 64 bits are counted, and that is enough for every k.
 pub(crate) fn aligned(x: u64, k: u32) -> bool
     requires { ⌜ k < 64 ⌝ }
     ensures { λ r. ⌜ r ≡ aligned x k ⌝ }
 {
-    x % (1 << k) == 0
+    k <= u64::trailing_zeros(x)
 }
 
 // The address lies between the base and base + 2^k − 1.

@@ -1,4 +1,4 @@
--- A size out of range is wrong by itself; of one in range the shifts are too, and the last four tests say. Assumes nothing.
+-- A size out of range is wrong by itself; one in range is below 64, and the last four tests say. Assumes nothing.
 use borrow.Author.Needs.{needs}
 use native.Mathlib.Omega.{arith}
 use mathlib.Core.Path.{ap}

@@ -1,4 +1,4 @@
--- A row that is not plain is not in force; of a plain one the shifts are in range, and the last three tests say. Assumes nothing.
+-- A row that is not plain is not in force; of a plain one k is below 64, and the last three tests say. Assumes nothing.
 use borrow.Author.Needs.{needs}
 use native.Mathlib.Omega.{arith}
 use Rattle.windows.proofs.Laws.Row.{plain-size}
