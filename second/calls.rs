@@ -69,7 +69,7 @@ fn aligned(address: u64, k: u32) -> u64 {
     address >> k << k
 }
 
-/// A bit that a multiple of 2^k has not: every other time the highest such, which leaves one zero too few.
+/// A bit that a multiple of 2^k has not: at least every other time the highest such, which leaves one zero too few.
 fn bit_below(random: &mut Random, k: u32) -> u64 {
     let bits = k.clamp(1, 63);
     let place = if random.one_in(2) { bits - 1 } else { random.below(bits) };

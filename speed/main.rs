@@ -128,7 +128,7 @@ fn turns(tables: &mut Tables, run: &Run) -> usize {
     }
 }
 
-/// The median of each run's rounds. All go over the same tables, since where these lie in memory makes a difference of its own.
+/// The median of each run's rounds. All go over the same tables, so that these lie at the same place in memory for all.
 fn medians(mut tables: Tables, runs: &[Run]) -> Vec<f64> {
     let counts: Vec<usize> = runs.iter().map(|run| turns(&mut tables, run)).collect();
     let mut times = vec![Vec::new(); runs.len()];
