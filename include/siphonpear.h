@@ -7,6 +7,8 @@
  * proved to do what is said here. It keeps nothing between calls, so calls may run at once wherever no buffer that one of them
  * may write is lent to another.
  *
+ * A marked packet is a poisoned one: EP, bit 14 of its first word, is set.
+ *
  * What the caller must still see to, since no call can:
  *   - A buffer is a pointer and a length: how many numbers of the pointer's type, not bytes. That many must be there to be
  *     read, and written where the pointer is not const. A null pointer with length 0 is an empty buffer; a null or a wrong
@@ -47,7 +49,7 @@ extern "C" {
 #define SIPHON_SENDER_INACTIVE 2      /* the sender is inactive */
 #define SIPHON_FORM 3                 /* the packet is malformed */
 #define SIPHON_NOT_CARRIED 4          /* another kind of packet, or one with a digest or an address type */
-#define SIPHON_POISONED 5             /* the packet is poisoned */
+#define SIPHON_POISONED 5             /* the packet is marked (poisoned, EP set), and may not pass there */
 #define SIPHON_NO_WINDOW 6            /* no window of the sender covers the address */
 #define SIPHON_NO_ENTRY 7             /* no entry of the sender holds the requester ID */
 #define SIPHON_DESTINATION_INACTIVE 8 /* the window leads to an inactive partition */
@@ -72,9 +74,17 @@ extern "C" {
  *   3  fewer than 12 bytes
  *   4  a kind that is not carried, TD set, or AT not 0
  *   3  any other fault of form: a wrong length, enables, a crossed page, a high word of 0
- *   5  EP is set
- *   6, 7, 8  requests: no window, no entry, the destination is inactive
- *   9  completions: no way back
+ * then for a request
+ *   6  no window of p covers the address
+ *   5  it is marked, and its window, the lowest slot in force that covers the address, lets no marked packet pass
+ *   7  no entry of p holds the requester ID
+ *   8  the window leads to an inactive partition
+ * or for a completion
+ *   9  no way back: the requester ID leads to no entry that is held; the owner of the entry is p itself, is inactive, or has no
+ *      window to p
+ *   5  it is marked, and no window of the owner to p lets marked packets pass; one that does is enough, in any slot
+ *
+ * A marked packet that crosses stays marked, and is not logged. Packets that are not marked pass through windows of both sorts.
  *
  * answer: the first eight words are written, and words beyond them stay.
  *   0     SIPHON_CROSSED, SIPHON_ANSWERED or SIPHON_DROPPED
@@ -104,14 +114,17 @@ uint32_t siphon_pass(uint32_t p,
  */
 
 /*
- * Opens a window of 2^k bytes in this slot of partition p: address base of p becomes address target of partition q.
- * Writes its row, from windows[48 * p + 3 * slot] on: base, target, 0x1000 + 0x100 * q + k.
+ * Opens a window of 2^k bytes in this slot of partition p: address base of p becomes address target of partition q. If marked
+ * is 0, no marked packet passes; if it is any other number, marked packets may pass. No refusal of this call depends on it.
+ * Writes its row, from windows[48 * p + 3 * slot] on: base, target and control. Control is 0x1000 + 0x100 * q + k, and 0x2000
+ * more where marked packets may pass: bits 7:0 are k, 11:8 are q, 12 is set in every window, 13 is for marked packets. A row
+ * with a bit above 13 is not in force.
  *   1   p above 15, slot above 15, windows_length not 768
  *   10  k below 12 or above 39, base or target no multiple of 2^k, q above 15, q equal to p
  *   11  some address of it is covered by another slot of p whose row is in force; the slot's own old row does not count
  */
 uint32_t siphon_set_window(uint32_t p, uint32_t slot, uint64_t base, uint64_t target, uint32_t k, uint32_t q,
-                           uint64_t *windows, size_t windows_length);
+                           uint32_t marked, uint64_t *windows, size_t windows_length);
 
 /*
  * Shuts the window in this slot of partition p. Writes its row: three zeros.

@@ -1,6 +1,6 @@
 //! Table calls, lends and stores: right ones, odd ones, and rubbish.
 
-use crate::model;
+use crate::model::{self, Window};
 use crate::packets::windows_of;
 use crate::random::Random;
 use crate::stream::{self, Bench, Record};
@@ -91,6 +91,15 @@ fn place(random: &mut Random, k: u32) -> u64 {
     aligned(address, k)
 }
 
+/// The choice whether marked packets may pass: 0 is no, any other number yes.
+fn choice(random: &mut Random) -> u32 {
+    match random.below(16) {
+        0..=7 => 0,
+        8..=13 => 1,
+        _ => random.pick(&[2, 0x100, 0x8000_0000, 0xFFFF_FFFF]),
+    }
+}
+
 /// Sets a window: at a fresh place, or near a window that the partition has.
 pub fn set_window(random: &mut Random, bench: &Bench, p: u32) -> Record {
     let near = windows_of(p as usize % 16, bench);
@@ -109,14 +118,21 @@ pub fn set_window(random: &mut Random, bench: &Bench, p: u32) -> Record {
         _ => (),
     }
     let slot = window_slot(random);
-    let to = destination(random, p);
-    Record::new(stream::SET_WINDOW, &with_window(p, slot, base, target, k, to))
+    let to = destination_near(random, p, &near);
+    let choice = choice(random);
+    let high = |number: u64| (number >> 32) as u32;
+    let span = [high(base), base as u32, high(target), target as u32];
+    let with = [p, slot, span[0], span[1], span[2], span[3], k, to, choice];
+    Record::new(stream::SET_WINDOW, &with)
 }
 
-/// The eight parameters of a window.
-fn with_window(p: u32, slot: u32, base: u64, target: u64, k: u32, to: u32) -> [u32; 8] {
-    let high = |number: u64| (number >> 32) as u32;
-    [p, slot, high(base), base as u32, high(target), target as u32, k, to]
+/// A destination, now and then that of a window that the partition has, so that several lead there.
+fn destination_near(random: &mut Random, p: u32, near: &[Window]) -> u32 {
+    if near.is_empty() || !random.one_in(3) {
+        destination(random, p)
+    } else {
+        random.pick(near).destination as u32
+    }
 }
 
 /// A span that is the given one, lies in it, around it, or just beside it.
@@ -195,17 +211,17 @@ fn store(table: u32, place: usize, value: u64) -> Record {
 /// Stores rubbish somewhere.
 pub fn rubbish(random: &mut Random, bench: &Bench) -> Vec<Record> {
     let any = random.draw();
-    match random.below(16) {
-        0..=3 => spoiled_row(random, bench),
-        4 | 5 => row_over_another(random, bench),
-        6..=8 => vec![odd_entry(random, bench)],
-        9 => vec![odd_bus(random)],
-        10..=12 => {
+    match random.below(22) {
+        0..=4 => spoiled_row(random, bench),
+        5..=10 => row_over_another(random, bench),
+        11..=13 => vec![odd_entry(random, bench)],
+        14 => vec![odd_bus(random)],
+        15..=17 => {
             let value = random.pick(&[0, 0, 1, 0x8000_0000, 0x0010_0000, any]);
             let place = if random.one_in(2) { 6 * random.below(16) } else { random.below(96) };
             vec![store(2, place as usize, value)]
         }
-        13 | 14 => vec![store(3, random.below(4120) as usize, any)],
+        18..=20 => vec![store(3, random.below(4120) as usize, any)],
         _ => {
             let places = [767, 768, 769, 80, 81, 96, 97, 4112, 4119, 4120, 0xFFFF_FFFF];
             vec![store(random.pick(&[0, 1, 2, 3, 4, 0xFFFF_FFFF]), random.pick(&places), any)]
@@ -213,7 +229,8 @@ pub fn rubbish(random: &mut Random, bench: &Bench) -> Vec<Record> {
     }
 }
 
-/// Takes a row and makes it ill-formed in one way, or spoils its word altogether.
+/// Takes a row and changes its choice about marked packets, makes it ill-formed in one way, or spoils
+/// its word altogether.
 fn spoiled_row(random: &mut Random, bench: &Bench) -> Vec<Record> {
     let start = random.below(256) as usize;
     let used = |&row: &usize| bench.windows[3 * row + 2] != 0;
@@ -222,20 +239,23 @@ fn spoiled_row(random: &mut Random, bench: &Bench) -> Vec<Record> {
     let control = bench.windows[row + 2];
     let bit = bit_below(random, (control & 0x3F) as u32);
     let own = (row / 48) as u64;
-    let (word, value) = match random.below(8) {
+    let (word, value) = match random.below(12) {
         0 => (2, control & !0xFF | random.pick(&[11, 11, 40, 40, 0, 255])),
-        1 => (2, control | 1 << random.pick(&[13, 13, 14, 31, 32, 63])),
-        2 => (2, control & !0xF00 | own << 8),
-        3 => (2, control ^ 1 << 12),
-        4 => (0, base | bit),
-        5 => (1, target | bit),
-        6 => (2, 0x1000 | random.draw() & 0xFFF),
+        1 | 2 => (2, control | 1 << random.pick(&[14, 14, 15, 16, 31, 32, 63])),
+        3 | 4 => (2, control ^ 1 << 13),
+        5 => (2, control & !0xF00 | own << 8),
+        6 => (2, control ^ 1 << 12),
+        7 => (0, base | bit),
+        8 => (1, target | bit),
+        9 => (2, 0x1000 | random.draw() & 0x2FFF),
+        10 => (2, control & 0x1FFF | random.pick(&[1, 2, 3, 4, 5, 6, 1 << 50]) << 13),
         _ => (random.below(3) as usize, random.draw()),
     };
     vec![store(0, row + word, value)]
 }
 
-/// Lays a row over another that is in force, as no call would.
+/// Lays a row over another that is in force, as no call would: mostly with the other choice about
+/// marked packets, often with the same destination, and now and then not in force itself.
 fn row_over_another(random: &mut Random, bench: &Bench) -> Vec<Record> {
     let p = random.below(16);
     let near = windows_of(p as usize, bench);
@@ -245,7 +265,11 @@ fn row_over_another(random: &mut Random, bench: &Bench) -> Vec<Record> {
     let window = random.pick(&near);
     let (base, k) = span_near(random, window.base, window.k);
     let target = place(random, k);
-    let control = 1 << 12 | u64::from(destination(random, p) & 0xF) << 8 | u64::from(k);
+    let to = if random.one_in(2) { window.destination as u32 } else { destination(random, p) & 0xF };
+    let takes_marked = window.takes_marked == random.one_in(4);
+    let right = u64::from(takes_marked) << 13 | 1 << 12 | u64::from(to) << 8 | u64::from(k);
+    let wrong = right ^ 1 << random.pick(&[6, 12, 12, 14, 15, 16, 63]);
+    let control = if random.one_in(4) { wrong } else { right };
     let row = 3 * (16 * p + random.below(16)) as usize;
     vec![store(0, row, base), store(0, row + 1, target), store(0, row + 2, control)]
 }

@@ -79,11 +79,10 @@ impl Lessons {
     /// Rubbish in the tables, and often a packet that goes by it.
     fn rubbish(&mut self) {
         let stores = calls::rubbish(&mut self.random, &self.bench);
-        let packet = match stores.first() {
-            Some(store) if !self.random.one_in(4) => {
-                packets::aimed(&mut self.random, &self.bench, store)
-            }
-            _ => None,
+        let packet = if self.random.one_in(4) {
+            None
+        } else {
+            packets::aimed(&mut self.random, &self.bench, &stores)
         };
         self.waiting.extend(stores);
         if let Some((from, packet)) = packet {

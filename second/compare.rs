@@ -172,7 +172,7 @@ impl Reader<'_> {
         while let Some(step) = lessons.step() {
             self.number += 1;
             self.compare_answer(&step)?;
-            tally.note(&step.record, step.answer[0], lessons.bench.outcome);
+            tally.note(&step.record, step.answer[0], &lessons.bench);
             if step.record.call != stream::SHOW {
                 self.before = Some((self.number, step.record));
                 continue;

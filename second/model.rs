@@ -56,6 +56,8 @@ pub struct Window {
     pub target: u64,
     pub k: u32,
     pub destination: usize,
+    /// Whether marked packets, which have EP set, may pass.
+    pub takes_marked: bool,
 }
 
 impl Window {
@@ -75,9 +77,10 @@ pub fn look_window(p: usize, row: &[u64]) -> Option<Window> {
     let (base, target, control) = (row[0], row[1], row[2]);
     let k = (control & 0xFF) as u32;
     let destination = (control >> 8 & 0xF) as usize;
-    let enabled_and_spare_zero = control >> 12 == 1;
+    let enabled_and_spare_zero = control >> 12 & 1 == 1 && control >> 14 == 0;
     if enabled_and_spare_zero && destination != p && good_span(base, target, k) {
-        Some(Window { base, target, k, destination })
+        let takes_marked = control >> 13 & 1 == 1;
+        Some(Window { base, target, k, destination, takes_marked })
     } else {
         None
     }
@@ -91,6 +94,16 @@ fn good_span(base: u64, target: u64, k: u32) -> bool {
 /// The rows of partition `p`, in the order of their slots.
 pub fn rows(p: usize, windows: &[u64]) -> std::slice::ChunksExact<'_, u64> {
     windows[48 * p..48 * p + 48].chunks_exact(3)
+}
+
+/// The windows of partition `p` that are in force, in the order of their slots.
+pub fn in_force(p: usize, windows: &[u64]) -> impl Iterator<Item = Window> + '_ {
+    rows(p, windows).filter_map(move |row| look_window(p, row))
+}
+
+/// Those of them that lead to `q`.
+pub fn in_force_to(p: usize, q: usize, windows: &[u64]) -> impl Iterator<Item = Window> + '_ {
+    in_force(p, windows).filter(move |window| window.destination == q)
 }
 
 /// Looks at a mapping word: the requester ID that it holds. An ill-formed word holds none.
@@ -161,11 +174,11 @@ fn route(
     if is_request(kind(words)) {
         route_request(p, words, windows, numbers)
     } else {
-        route_completion(p, own_bus, words, windows, numbers).ok_or(9)
+        route_completion(p, own_bus, words, windows, numbers)
     }
 }
 
-/// The tests on the packet alone: 3 for its beginning, 4, the rest of 3, 5.
+/// The tests on the packet alone: 3 for its beginning, 4, the rest of 3.
 fn check_packet(packet: &[u8], words: &[u32; 4]) -> Result<(), Refusal> {
     if packet.len() < 12 {
         return Err(3);
@@ -182,14 +195,11 @@ fn check_packet(packet: &[u8], words: &[u32; 4]) -> Result<(), Refusal> {
     if is_request(kind) && !form_is_right(words) {
         return Err(3);
     }
-    let ep = words[0] >> 14 & 1;
-    if ep != 0 {
-        return Err(5);
-    }
     Ok(())
 }
 
-/// A request goes by its window and its entry: 6, 7, 8.
+/// A request goes by its window and its entry: 6, 5, 7, 8. The window is found before its choice
+/// about marked packets is looked at.
 fn route_request(
     p: usize,
     words: &[u32; 4],
@@ -197,10 +207,10 @@ fn route_request(
     numbers: &[u32],
 ) -> Result<(usize, [u32; 4]), Refusal> {
     let address = address(words);
-    let window = rows(p, windows)
-        .filter_map(|row| look_window(p, row))
-        .find(|window| window.covers(address))
-        .ok_or(6u32)?;
+    let window = in_force(p, windows).find(|window| window.covers(address)).ok_or(6u32)?;
+    if is_marked(words) && !window.takes_marked {
+        return Err(5);
+    }
     let requester = words[1] >> 16;
     let slot = numbers[4 * p..4 * p + 4]
         .iter()
@@ -226,8 +236,24 @@ fn moved_request(words: &[u32; 4], address: u64, requester: u32) -> [u32; 4] {
     }
 }
 
-/// A completion sent from `q` goes back to the owner of the entry that its requester ID names.
+/// A completion sent from `q` goes back to the owner of the entry that its requester ID names: 9, 5.
+/// If it is marked, any window of the owner's to `q` that takes such packets will do.
 fn route_completion(
+    q: usize,
+    own_bus: u32,
+    words: &[u32; 4],
+    windows: &[u64],
+    numbers: &[u32],
+) -> Result<(usize, [u32; 4]), Refusal> {
+    let (p, changed) = way_back(q, own_bus, words, windows, numbers).ok_or(9u32)?;
+    if is_marked(words) && !in_force_to(p, q, windows).any(|window| window.takes_marked) {
+        return Err(5);
+    }
+    Ok((p, changed))
+}
+
+/// Where a completion sent from `q` goes and the header that it has there, marked or not.
+fn way_back(
     q: usize,
     own_bus: u32,
     words: &[u32; 4],
@@ -242,8 +268,7 @@ fn route_completion(
     let requester = look_entry(numbers[index])?;
     let p = index / 4;
     let owner_bus = bus(p, numbers)?;
-    let leads_here = |window: Window| window.destination == q;
-    if p == q || !rows(p, windows).filter_map(|row| look_window(p, row)).any(leads_here) {
+    if p == q || in_force_to(p, q, windows).next().is_none() {
         return None;
     }
     let word_1 = owner_bus << 24 | words[1] & 0xFFFF;
@@ -322,6 +347,11 @@ fn kind(words: &[u32; 4]) -> u8 {
     (words[0] >> 24) as u8
 }
 
+/// Whether EP is set: the packet is poisoned.
+fn is_marked(words: &[u32; 4]) -> bool {
+    words[0] >> 14 & 1 == 1
+}
+
 fn is_read(kind: u8) -> bool {
     matches!(kind, READ_32 | READ_64)
 }
@@ -367,6 +397,13 @@ fn enables(words: &[u32; 4]) -> (u32, u32) {
 /// Which header word of a request has the low half of the address.
 fn address_low_place(words: &[u32; 4]) -> usize {
     header_length(words) / 4 - 1
+}
+
+/// Whether some window of partition `p`, in whatever slot, covers a request and takes marked packets.
+/// No rule asks this; the tally does.
+pub fn some_window_takes_marked(p: usize, request: &[u8], windows: &[u64]) -> bool {
+    let address = address(&header(request));
+    in_force(p, windows).any(|window| window.covers(address) && window.takes_marked)
 }
 
 /// The address of a request, without the lowest two bits of its word.
@@ -444,13 +481,14 @@ fn entry_place(p: u32, slot: u32, numbers: &[u32]) -> Done {
     demand(p < PARTITIONS && slot < 4 && numbers.len() == NUMBERS)
 }
 
-/// Sets a window, enabled: 1, 10, 11.
+/// Sets a window, enabled, which takes marked packets or does not: 1, 10, 11.
 pub fn set_window(
     p: u32,
     slot: u32,
     (base, target): (u64, u64),
     k: u32,
     destination: u32,
+    takes_marked: bool,
     windows: &mut [u64],
 ) -> Done {
     window_place(p, slot, windows)?;
@@ -458,7 +496,7 @@ pub fn set_window(
         return Err(10);
     }
     let (p, slot) = (p as usize, slot as usize);
-    let new = Window { base, target, k, destination: destination as usize };
+    let new = Window { base, target, k, destination: destination as usize, takes_marked };
     let overlapping = rows(p, windows)
         .enumerate()
         .filter(|&(other, _)| other != slot)
@@ -467,7 +505,8 @@ pub fn set_window(
     if overlapping {
         return Err(11);
     }
-    let control = 1 << 12 | u64::from(destination) << 8 | u64::from(k);
+    let choice = u64::from(takes_marked) << 13;
+    let control = choice | 1 << 12 | u64::from(destination) << 8 | u64::from(k);
     let row = 3 * (16 * p + slot);
     windows[row..row + 3].copy_from_slice(&[base, target, control]);
     Ok(())

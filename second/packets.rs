@@ -2,7 +2,7 @@
 
 use crate::model::{self, Window};
 use crate::random::Random;
-use crate::stream::{Bench, Record, LONGEST};
+use crate::stream::{self, Bench, Record, LONGEST};
 
 /// A request that came out: the partition, and its word 1 there.
 #[derive(Clone, Copy)]
@@ -25,6 +25,9 @@ pub fn packet(random: &mut Random, bench: &Bench, came: &[Came]) -> (u32, Vec<u8
         4 | 5 => completion_for(random, bench, came),
         _ => request(random, bench),
     };
+    if random.one_in(6) {
+        mark(&mut packet);
+    }
     if random.one_in(3) {
         spoil(random, &mut packet);
         if random.one_in(4) {
@@ -40,7 +43,7 @@ pub fn packet(random: &mut Random, bench: &Bench, came: &[Came]) -> (u32, Vec<u8
 
 /// The windows of a partition that are in force.
 pub fn windows_of(p: usize, bench: &Bench) -> Vec<Window> {
-    model::rows(p, &bench.windows).filter_map(|row| model::look_window(p, row)).collect()
+    model::in_force(p, &bench.windows).collect()
 }
 
 /// A partition that is active and has a window, if there is one.
@@ -51,19 +54,22 @@ fn sender(random: &mut Random, bench: &Bench) -> usize {
     }
     let suits = |&p: &usize| {
         model::bus(p, &bench.numbers).is_some()
-            && model::rows(p, &bench.windows).any(|row| model::look_window(p, row).is_some())
+            && model::in_force(p, &bench.windows).next().is_some()
     };
     (start..start + 16).map(|p| p % 16).find(suits).unwrap_or(start)
 }
 
 /// A packet that goes by a word of the windows or the numbers: what is stored there decides.
-pub fn aimed(random: &mut Random, bench: &Bench, store: &Record) -> Option<(u32, Vec<u8>)> {
+pub fn aimed(random: &mut Random, bench: &Bench, stores: &[Record]) -> Option<(u32, Vec<u8>)> {
+    let store = stores.first()?;
     let (table, place, word) = (store.with[0], store.with[1] as usize, store.with[3]);
     if table == 0 && place < model::WINDOWS {
-        let p = place / 48;
-        let window = row_as_window(&bench.windows[place / 3 * 3..place / 3 * 3 + 3]);
-        let (id, address) = (requester(random, p, bench), address_in(random, &window));
-        Some(request_from(random, p, address, id))
+        let start = place / 3 * 3;
+        let mut row = [bench.windows[start], bench.windows[start + 1], bench.windows[start + 2]];
+        if stores.len() == row.len() {
+            row = [0, 1, 2].map(|word: usize| stream::wide(stores[word].with[2], stores[word].with[3]));
+        }
+        Some(aimed_at_row(random, bench, place / 48, &row_as_window(&row)))
     } else if table == 1 && place < model::BUSES && random.one_in(2) {
         let p = place / 4;
         let address = window(random, p, bench).map_or(0, |window| window.base);
@@ -76,6 +82,23 @@ pub fn aimed(random: &mut Random, bench: &Bench, store: &Record) -> Option<(u32,
     } else {
         None
     }
+}
+
+/// A request through a row of partition `p`, or a completion on the way back; every other one is marked.
+fn aimed_at_row(random: &mut Random, bench: &Bench, p: usize, row: &Window) -> (u32, Vec<u8>) {
+    let (from, mut packet) = if random.one_in(3) {
+        let start = random.below(4) as usize;
+        let held = |&i: &usize| model::look_entry(bench.numbers[i]).is_some();
+        let index = (start..start + 4).map(|slot| 4 * p + slot % 4).find(held).unwrap_or(4 * p);
+        completion_from(random, bench, row.destination, index)
+    } else {
+        let (id, address) = (requester(random, p, bench), address_in(random, row));
+        request_from(random, p, address, id)
+    };
+    if random.one_in(2) {
+        mark(&mut packet);
+    }
+    (from, packet)
 }
 
 /// A read or a write through a window of its sender's.
@@ -126,7 +149,8 @@ fn any_row(random: &mut Random, p: usize, bench: &Bench) -> Option<Window> {
 fn row_as_window(row: &[u64]) -> Window {
     let k = (row[2] as u32 & 0xFF).clamp(12, 39);
     let destination = (row[2] >> 8 & 0xF) as usize;
-    Window { base: row[0], target: row[1], k, destination }
+    let takes_marked = row[2] >> 13 & 1 == 1;
+    Window { base: row[0], target: row[1], k, destination, takes_marked }
 }
 
 /// A window of a partition's, mostly one that is in force and leads to an active partition.
@@ -246,6 +270,11 @@ fn completion(random: &mut Random, bench: &Bench) -> (u32, Vec<u8>) {
         Some(window) => window.destination,
         None => random.below(16) as usize,
     };
+    completion_from(random, bench, from, index)
+}
+
+/// A completion for the owner of this entry.
+fn completion_from(random: &mut Random, bench: &Bench, from: usize, index: usize) -> (u32, Vec<u8>) {
     let bus = model::bus(from, &bench.numbers).unwrap_or(0);
     let number = 256 * bus + 64 + index as u32;
     let tag = random.word() & 0xFF00;
@@ -313,7 +342,7 @@ fn spoil(random: &mut Random, packet: &mut Vec<u8>) {
         2 => random.bytes(1 + (any & 7) as usize, packet),
         3 => change(packet, 2, |byte| byte | 0x80),
         4 => change(packet, 2, |byte| byte | random.pick(&[4, 8, 12])),
-        5 | 6 => change(packet, 2, |byte| byte | 0x40),
+        5 | 6 => mark(packet),
         7 => change(packet, 0, |_| random.pick(&KINDS)),
         8 => change(packet, 0, |byte| byte ^ bit),
         9 => change(packet, 3, |byte| random.pick(&[0, 1, 2, byte.wrapping_add(1)])),
@@ -324,6 +353,11 @@ fn spoil(random: &mut Random, packet: &mut Vec<u8>) {
         14 => zero_high_word(packet),
         _ => change(packet, 1, |byte| byte ^ 0x8F),
     }
+}
+
+/// Sets a packet's EP.
+fn mark(packet: &mut [u8]) {
+    change(packet, 2, |byte| byte | 0x40);
 }
 
 /// Gives a request a high address word of 0.

@@ -27,7 +27,7 @@ pub const ANSWER_ROOM: usize = 10;
 pub const ANSWER_WORDS: usize = 8;
 
 /// How many bytes a record has before its packet.
-pub const RECORD_BYTES: usize = 40;
+pub const RECORD_BYTES: usize = 44;
 /// The longest packet of a record.
 pub const LONGEST: usize = 4200;
 /// How many bytes an answer has.
@@ -45,7 +45,7 @@ pub const BROKEN: [u32; 11] = [0xFFFF_FFFF, 0, 0, 0, 0, 0, 0, 0, 0, 0, 0];
 #[derive(Clone, Debug)]
 pub struct Record {
     pub call: u32,
-    pub with: [u32; 8],
+    pub with: [u32; 9],
     pub packet: Vec<u8>,
 }
 
@@ -59,7 +59,7 @@ pub enum Next {
 impl Record {
     /// A call without a packet; parameters that are not given are 0.
     pub fn new(call: u32, parameters: &[u32]) -> Record {
-        let mut with = [0; 8];
+        let mut with = [0; 9];
         with[..parameters.len()].copy_from_slice(parameters);
         Record { call, with, packet: Vec::new() }
     }
@@ -69,12 +69,12 @@ impl Record {
         Record { packet, ..Record::new(PASS, &[partition]) }
     }
 
-    /// The record's ten words.
-    pub fn words(&self) -> [u32; 10] {
-        let mut words = [0; 10];
+    /// The record's eleven words.
+    pub fn words(&self) -> [u32; 11] {
+        let mut words = [0; 11];
         words[0] = self.call;
-        words[1..9].copy_from_slice(&self.with);
-        words[9] = self.packet.len() as u32;
+        words[1..10].copy_from_slice(&self.with);
+        words[10] = self.packet.len() as u32;
         words
     }
 
@@ -95,16 +95,16 @@ pub fn decode(from: &mut impl Read) -> io::Result<Next> {
         RECORD_BYTES => (),
         _ => return Ok(Next::Broken),
     }
-    let mut words = [0; 10];
+    let mut words = [0; 11];
     for (word, b) in words.iter_mut().zip(bytes.chunks_exact(4)) {
         *word = u32::from_be_bytes([b[0], b[1], b[2], b[3]]);
     }
-    let (call, following) = (words[0], words[9] as usize);
+    let (call, following) = (words[0], words[10] as usize);
     let most = if call == PASS { LONGEST } else { 0 };
     if !(PASS..=SHOW).contains(&call) || following > most {
         return Ok(Next::Broken);
     }
-    let mut record = Record::new(call, &words[1..9]);
+    let mut record = Record::new(call, &words[1..10]);
     record.packet.resize(following, 0);
     if fill(from, &mut record.packet)? < following {
         return Ok(Next::Broken);
@@ -215,7 +215,7 @@ impl Bench {
         answer
     }
 
-    fn table_call(&mut self, call: u32, with: &[u32; 8]) -> model::Done {
+    fn table_call(&mut self, call: u32, with: &[u32; 9]) -> model::Done {
         let (p, second) = (with[0], with[1]);
         let windows = &mut self.windows[..self.windows_lent];
         let numbers = &mut self.numbers[..self.numbers_lent];
@@ -223,7 +223,7 @@ impl Bench {
         match call {
             SET_WINDOW => {
                 let span = (wide(with[2], with[3]), wide(with[4], with[5]));
-                model::set_window(p, second, span, with[6], with[7], windows)
+                model::set_window(p, second, span, with[6], with[7], with[8] != 0, windows)
             }
             EMPTY_WINDOW => model::empty_window(p, second, windows),
             SET_ENTRY => model::set_entry(p, second, with[2] as u16, numbers),
@@ -258,7 +258,7 @@ impl Bench {
         answer
     }
 
-    fn lend(&mut self, with: &[u32; 8]) {
+    fn lend(&mut self, with: &[u32; 9]) {
         let within = |length: u32, room: usize| room.min(length as usize);
         self.windows_lent = within(with[0], WINDOWS_ROOM);
         self.numbers_lent = within(with[1], NUMBERS_ROOM);
@@ -267,7 +267,7 @@ impl Bench {
         self.answer_lent = within(with[4], ANSWER_ROOM);
     }
 
-    fn store(&mut self, with: &[u32; 8]) {
+    fn store(&mut self, with: &[u32; 9]) {
         let (place, high, low) = (with[1] as usize, with[2], with[3]);
         match with[0] {
             0 => put(&mut self.windows, place, wide(high, low)),

@@ -88,6 +88,26 @@ fn mixed() -> Vec<(u32, Vec<u8>)> {
         .collect()
 }
 
+/// A packet with EP set.
+fn marked((p, mut packet): (u32, Vec<u8>)) -> (u32, Vec<u8>) {
+    packet[2] |= 0x40;
+    (p, packet)
+}
+
+/// Marked packets, on which there must be agreement, and which are not measured. To partition 0 they may pass through the first
+/// window and not through the second, which covers the first too; to partition 2 none may pass; one row has a bit too many.
+pub fn all_marked() -> Case {
+    let mut t = with_slot(0);
+    put_row(&mut t, 1, 0, 0x9000_0000, 0x1_4000_0000, 0x3014);
+    put_row(&mut t, 1, 1, 0x9000_0000, 0x1_4000_0000, 0x1015);
+    put_row(&mut t, 1, 2, 0xA000_0000, 0xA000_0000, 0x1214);
+    put_row(&mut t, 1, 3, 0xA010_0000, 0xA010_0000, 0x7214);
+    let (_, back) = completion(4, 0x0346);
+    let mut packets = vec![write(4), write(4096), completion(4, 0x0146), completion(4, 0x0147), (2, back)];
+    packets.extend([0x9000_0010, 0x9010_0010, 0xA000_0000, 0xA010_0000, 0xB000_0000].map(read));
+    Case { name: "marked packets", tables: t, packets: packets.into_iter().map(marked).collect() }
+}
+
 /// Every case of the table.
 pub fn all() -> Vec<Case> {
     let case = |name, tables, packets| Case { name, tables, packets };

@@ -1,6 +1,7 @@
 //! Nanoseconds a packet: the proved library, the second program's passing function, and plain C, on the same packets and the
 //! same tables in one run; and memcpy of 4,096 bytes. Median of 15 rounds, in each of which every one of them has its turn.
-//! Under `--cfg before` the proved library of another checkout is one more of them, its names with `before_` in front.
+//! Under `--cfg before` the proved library of another checkout is one more of them, its names with `before_` in front; under
+//! `--cfg before_unmarked` too, that library sets windows without the choice whether marked packets may pass.
 
 #[path = "../second/model.rs"]
 #[allow(dead_code)]
@@ -19,7 +20,7 @@ const TURN: u128 = 4_000_000;
 type Pass = unsafe extern "C" fn(
     u32, *const u8, usize, *const u64, usize, *mut u32, usize, *mut u32, usize, *mut u8, usize, *mut u32, usize,
 ) -> u32;
-type SetWindow = unsafe extern "C" fn(u32, u32, u64, u64, u32, u32, *mut u64, usize) -> u32;
+type SetWindow = unsafe extern "C" fn(u32, u32, u64, u64, u32, u32, u32, *mut u64, usize) -> u32;
 
 extern "C" {
     fn siphon_pass(
@@ -33,10 +34,10 @@ extern "C" {
         answer_length: usize,
     ) -> u32;
     fn siphon_set_window(
-        p: u32, slot: u32, base: u64, target: u64, k: u32, q: u32, windows: *mut u64, windows_length: usize,
+        p: u32, slot: u32, base: u64, target: u64, k: u32, q: u32, marked: u32, windows: *mut u64, windows_length: usize,
     ) -> u32;
     fn plain_set_window(
-        p: u32, slot: u32, base: u64, target: u64, k: u32, q: u32, windows: *mut u64, windows_length: usize,
+        p: u32, slot: u32, base: u64, target: u64, k: u32, q: u32, marked: u32, windows: *mut u64, windows_length: usize,
     ) -> u32;
     #[cfg(before)]
     fn before_siphon_pass(
@@ -44,7 +45,11 @@ extern "C" {
         numbers_length: usize, logs: *mut u32, logs_length: usize, out: *mut u8, out_length: usize, answer: *mut u32,
         answer_length: usize,
     ) -> u32;
-    #[cfg(before)]
+    #[cfg(all(before, not(before_unmarked)))]
+    fn before_siphon_set_window(
+        p: u32, slot: u32, base: u64, target: u64, k: u32, q: u32, marked: u32, windows: *mut u64, windows_length: usize,
+    ) -> u32;
+    #[cfg(before_unmarked)]
     fn before_siphon_set_window(
         p: u32, slot: u32, base: u64, target: u64, k: u32, q: u32, windows: *mut u64, windows_length: usize,
     ) -> u32;
@@ -168,35 +173,42 @@ fn pass_case(case: &Case) -> Vec<f64> {
 }
 
 /// Sets a window of partition 1 by a function with C's parameters.
-fn by_set(set: SetWindow, base: u64, windows: &mut [u64]) -> u32 {
+fn by_set(set: SetWindow, base: u64, marked: bool, windows: &mut [u64]) -> u32 {
     // As above: a slice that lives through the call.
-    unsafe { set(1, 15, base, 0x1_4000_0000, 20, 0, windows.as_mut_ptr(), windows.len()) }
+    unsafe { set(1, 15, base, 0x1_4000_0000, 20, 0, u32::from(marked), windows.as_mut_ptr(), windows.len()) }
 }
 
-fn proved_set(base: u64, windows: &mut [u64]) -> u32 {
-    by_set(siphon_set_window, base, windows)
+fn proved_set(base: u64, marked: bool, windows: &mut [u64]) -> u32 {
+    by_set(siphon_set_window, base, marked, windows)
 }
 
-fn plain_set(base: u64, windows: &mut [u64]) -> u32 {
-    by_set(plain_set_window, base, windows)
+fn plain_set(base: u64, marked: bool, windows: &mut [u64]) -> u32 {
+    by_set(plain_set_window, base, marked, windows)
 }
 
-#[cfg(before)]
-fn before_set(base: u64, windows: &mut [u64]) -> u32 {
-    by_set(before_siphon_set_window, base, windows)
+#[cfg(all(before, not(before_unmarked)))]
+fn before_set(base: u64, marked: bool, windows: &mut [u64]) -> u32 {
+    by_set(before_siphon_set_window, base, marked, windows)
+}
+
+/// The call without the choice: only windows without marked packets are asked of it.
+#[cfg(before_unmarked)]
+fn before_set(base: u64, _: bool, windows: &mut [u64]) -> u32 {
+    // As above: a slice that lives through the call.
+    unsafe { before_siphon_set_window(1, 15, base, 0x1_4000_0000, 20, 0, windows.as_mut_ptr(), windows.len()) }
 }
 
 /// Sets a window by the second program's function, to which no parameter is known beforehand, as to the others.
-fn second_set(base: u64, windows: &mut [u64]) -> u32 {
+fn second_set(base: u64, marked: bool, windows: &mut [u64]) -> u32 {
     let [p, slot, k, q] = black_box([1, 15, 20, 0]);
     let target = black_box(0x1_4000_0000);
-    model::set_window(p, slot, (base, target), k, q, windows).err().unwrap_or(0)
+    model::set_window(p, slot, (base, target), k, q, black_box(marked), windows).err().unwrap_or(0)
 }
 
 /// Sets a window over fifteen others, each time a little further.
-fn setting<'a>(set: impl Fn(u64, &mut [u64]) -> u32 + 'a) -> Run<'a> {
+fn setting<'a>(set: impl Fn(u64, bool, &mut [u64]) -> u32 + 'a) -> Run<'a> {
     Box::new(move |i, tables| {
-        black_box(set(0x9000_0000 + (i as u64 % 16) * 0x10_0000, &mut tables.windows));
+        black_box(set(0x9000_0000 + (i as u64 % 16) * 0x10_0000, false, &mut tables.windows));
     })
 }
 
@@ -212,33 +224,39 @@ fn set_window() -> Vec<f64> {
     medians(cases::full(), &runs)
 }
 
-/// One of the others: its name, and how it passes a packet and sets a window.
-type Other = (&'static str, fn(u32, &[u8], &mut Tables) -> u32, fn(u64, &mut [u64]) -> u32);
+/// One of the others: its name, how it passes a packet and sets a window, and whether it has windows for marked packets.
+struct Other {
+    name: &'static str,
+    pass: fn(u32, &[u8], &mut Tables) -> u32,
+    set: fn(u64, bool, &mut [u64]) -> u32,
+    has_marked: bool,
+}
 
 /// Those with which the proved library must agree before all are measured.
 const OTHERS: &[Other] = &[
-    ("Rust", second, second_set),
-    ("C", plain, plain_set),
+    Other { name: "Rust", pass: second, set: second_set, has_marked: true },
+    Other { name: "C", pass: plain, set: plain_set, has_marked: true },
     #[cfg(before)]
-    ("before", before, before_set),
+    Other { name: "before", pass: before, set: before_set, has_marked: cfg!(not(before_unmarked)) },
 ];
 
 /// Whether another agrees on every packet of a case.
 fn agrees(case: &Case, other: &Other) -> bool {
     let (mut a, mut b) = (case.tables.clone(), case.tables.clone());
-    case.packets.iter().all(|(p, packet)| proved(*p, packet, &mut a) == other.1(*p, packet, &mut b) && a == b)
+    case.packets.iter().all(|(p, packet)| proved(*p, packet, &mut a) == (other.pass)(*p, packet, &mut b) && a == b)
 }
 
-/// Whether another agrees on windows that are set: at zero, with zeros enough, with one too few, over another.
-fn agrees_on_windows(other: &Other) -> bool {
+/// Whether another agrees on windows that are set with this choice about marked packets: at zero, with zeros enough, with one
+/// too few, over another.
+fn agrees_on_windows(other: &Other, marked: bool) -> bool {
     let (mut a, mut b) = (cases::full().windows, cases::full().windows);
     let bases = [0, 0x9000_0000, 0x9010_0000, 0x9008_0000, 0x9000_1000, 0x9000_0001, 0x1000_0000];
-    bases.iter().all(|&base| proved_set(base, &mut a) == other.2(base, &mut b) && a == b)
+    bases.iter().all(|&base| proved_set(base, marked, &mut a) == (other.set)(base, marked, &mut b) && a == b)
 }
 
 /// Says with whom the proved library does not agree on what, and ends.
 fn differ(other: &Other, what: &str) -> ! {
-    eprintln!("speed: the proved library and {} do not agree on '{what}'", other.0);
+    eprintln!("speed: the proved library and {} do not agree on '{what}'", other.name);
     std::process::exit(1);
 }
 
@@ -251,7 +269,21 @@ fn row(name: &str, t: &[f64]) {
     println!();
 }
 
+/// Ends, where another that has windows for marked packets does not agree on them.
+fn agree_on_marked() {
+    let case = cases::all_marked();
+    for other in OTHERS.iter().filter(|other| other.has_marked) {
+        if !agrees(&case, other) {
+            differ(other, case.name);
+        }
+        if !agrees_on_windows(other, true) {
+            differ(other, "set a window for marked packets");
+        }
+    }
+}
+
 fn main() {
+    agree_on_marked();
     print!("{:<34}{:>9}{:>9}{:>9}{:>12}", "ns a packet, median of 15", "proved", "Rust", "C", "to faster");
     println!("{}", if cfg!(before) { "   before  to before" } else { "" });
     for case in cases::all() {
@@ -260,7 +292,7 @@ fn main() {
         }
         row(case.name, &pass_case(&case));
     }
-    if let Some(other) = OTHERS.iter().find(|other| !agrees_on_windows(other)) {
+    if let Some(other) = OTHERS.iter().find(|other| !agrees_on_windows(other, false)) {
         differ(other, "set a window");
     }
     row("set a window", &set_window());

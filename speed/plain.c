@@ -14,6 +14,7 @@ struct header {
 struct translation {
     uint64_t address;
     unsigned destination;
+    int lets_marked;
 };
 
 static uint32_t load(const uint8_t *b) {
@@ -66,6 +67,10 @@ static int has_data(const struct header *h) {
     return kind(h) == 0x40 || kind(h) == 0x60 || kind(h) == 0x4A;
 }
 
+static int is_marked(const struct header *h) {
+    return (h->w[0] & 0x4000) != 0;
+}
+
 static uint32_t dwords(const struct header *h) {
     uint32_t n = h->w[0] & 0x3FF;
     return n ? n : 1024;
@@ -115,7 +120,7 @@ static int in_force(const uint64_t *row, unsigned p) {
     uint64_t control = row[2];
     unsigned k = control & 255;
     uint64_t below;
-    if (control >> 13 != 0 || !(control & 0x1000) || k < 12 || k > 39 || (control >> 8 & 15) == p)
+    if (control >> 14 != 0 || !(control & 0x1000) || k < 12 || k > 39 || (control >> 8 & 15) == p)
         return 0;
     below = ((uint64_t)1 << k) - 1;
     return (row[0] & below) == 0 && (row[1] & below) == 0;
@@ -128,16 +133,18 @@ static int look(const uint64_t *windows, unsigned p, uint64_t a, struct translat
         if (in_force(row, p) && a >= row[0] && a - row[0] < (uint64_t)1 << (row[2] & 255)) {
             t->address = a - row[0] + row[1];
             t->destination = row[2] >> 8 & 15;
+            t->lets_marked = (row[2] & 0x2000) != 0;
             return 1;
         }
     return 0;
 }
 
-static int leads(const uint64_t *windows, unsigned p, unsigned q) {
+/* Some row of p in force leads to q, and has all of these bits in its control. */
+static int leads(const uint64_t *windows, unsigned p, unsigned q, uint64_t bits) {
     const uint64_t *row = windows + 48 * p;
     int s;
     for (s = 0; s < 16; s++, row += 3)
-        if (in_force(row, p) && (row[2] >> 8 & 15) == q)
+        if (in_force(row, p) && (row[2] >> 8 & 15) == q && (row[2] & bits) == bits)
             return 1;
     return 0;
 }
@@ -232,10 +239,10 @@ static uint32_t pass_request(unsigned p, const uint8_t *packet, size_t n, struct
     size_t head = header_bytes(h);
     struct translation t;
     int i;
-    if (h->w[0] & 0x4000)
-        return refuse(5, p, bus, h, row, out, answer);
     if (!look(windows, p, address(h), &t))
         return refuse(6, p, bus, h, row, out, answer);
+    if (is_marked(h) && !t.lets_marked)
+        return refuse(5, p, bus, h, row, out, answer);
     i = find(numbers, p, h->w[1] >> 16);
     if (i < 0)
         return refuse(7, p, bus, h, row, out, answer);
@@ -258,11 +265,11 @@ static uint32_t pass_completion(unsigned q, const uint8_t *packet, size_t n, str
                                 const uint32_t *numbers, uint32_t *row, uint8_t *out, uint32_t *answer) {
     uint32_t id = h->w[2] >> 16, i = id & 63;
     unsigned p = i >> 2;
-    if (h->w[0] & 0x4000)
-        return drop(5, h, row, answer);
     if (id != (numbers[64 + q] << 8 | 64 | i) || numbers[i] >> 16 != 1 || p == q || numbers[64 + p] > 255 ||
-        !leads(windows, p, q))
+        !leads(windows, p, q, 0))
         return drop(9, h, row, answer);
+    if (is_marked(h) && !leads(windows, p, q, 0x2000))
+        return drop(5, h, row, answer);
     h->w[1] = numbers[64 + p] << 24 | (h->w[1] & 0xFFFF);
     h->w[2] = numbers[i] << 16 | (h->w[2] & 0xFFFF);
     return cross(h, p, packet, n, 12, out, answer);
@@ -296,8 +303,8 @@ static int overlaps(const uint64_t *row, uint64_t base, unsigned k) {
     return (base >= row[0] && base - row[0] < size) || (row[0] >= base && row[0] - base < (uint64_t)1 << k);
 }
 
-uint32_t plain_set_window(uint32_t p, uint32_t slot, uint64_t base, uint64_t target, uint32_t k, uint32_t q, uint64_t *windows,
-                          size_t windows_length) {
+uint32_t plain_set_window(uint32_t p, uint32_t slot, uint64_t base, uint64_t target, uint32_t k, uint32_t q, uint32_t marked,
+                          uint64_t *windows, size_t windows_length) {
     uint64_t *row;
     uint32_t s;
     if (p > 15 || slot > 15 || windows_length != 768)
@@ -310,6 +317,6 @@ uint32_t plain_set_window(uint32_t p, uint32_t slot, uint64_t base, uint64_t tar
     row = windows + 3 * (16 * p + slot);
     row[0] = base;
     row[1] = target;
-    row[2] = 0x1000 | q << 8 | k;
+    row[2] = (marked ? 0x3000 : 0x1000) | q << 8 | k;
     return 0;
 }

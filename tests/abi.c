@@ -59,19 +59,42 @@ static uint32_t pass(uint32_t p, const uint8_t *packet, size_t length, size_t ou
                        answer, answer_length);
 }
 
+/* Partition 1's window in slot 0. */
+static uint32_t set_first(uint32_t marked)
+{
+    return siphon_set_window(1, 0, 0x90000000, 0x140000000, 20, 0, marked, windows, SIPHON_WINDOWS);
+}
+
 static void window_calls(void)
 {
     uint64_t *row = windows + 48;
-    expect("a window is set", siphon_set_window(1, 0, 0x90000000, 0x140000000, 20, 0, windows, SIPHON_WINDOWS) == SIPHON_DONE);
+    expect("a window is set", set_first(0) == SIPHON_DONE);
     expect("its row", row[0] == 0x90000000 && row[1] == 0x140000000 && row[2] == 0x1014);
-    expect("a slot too large", siphon_set_window(1, 16, 0, 0, 12, 0, windows, SIPHON_WINDOWS) == SIPHON_WRONG_CALL);
-    expect("a table too short", siphon_set_window(1, 1, 0, 0, 12, 0, windows, SIPHON_WINDOWS - 1) == SIPHON_WRONG_CALL);
-    expect("k too small", siphon_set_window(1, 1, 0, 0, 11, 0, windows, SIPHON_WINDOWS) == SIPHON_WINDOW_VALUES);
-    expect("an overlap", siphon_set_window(1, 1, 0x900FF000, 0, 12, 0, windows, SIPHON_WINDOWS) == SIPHON_OVERLAP);
+    expect("a slot too large", siphon_set_window(1, 16, 0, 0, 12, 0, 0, windows, SIPHON_WINDOWS) == SIPHON_WRONG_CALL);
+    expect("a table too short", siphon_set_window(1, 1, 0, 0, 12, 0, 0, windows, SIPHON_WINDOWS - 1) == SIPHON_WRONG_CALL);
+    expect("k too small", siphon_set_window(1, 1, 0, 0, 11, 0, 0, windows, SIPHON_WINDOWS) == SIPHON_WINDOW_VALUES);
+    expect("an overlap", siphon_set_window(1, 1, 0x900FF000, 0, 12, 0, 0, windows, SIPHON_WINDOWS) == SIPHON_OVERLAP);
     expect("the next row is as it was", row[3] == 0 && row[4] == 0 && row[5] == 0);
-    expect("another is set", siphon_set_window(1, 1, 0xA0000000, 0, 12, 3, windows, SIPHON_WINDOWS) == SIPHON_DONE);
+    expect("another is set", siphon_set_window(1, 1, 0xA0000000, 0, 12, 3, 0, windows, SIPHON_WINDOWS) == SIPHON_DONE);
     expect("and emptied", siphon_empty_window(1, 1, windows, SIPHON_WINDOWS) == SIPHON_DONE && row[3] == 0 && row[5] == 0);
     expect("a partition too large", siphon_empty_window(16, 0, windows, SIPHON_WINDOWS) == SIPHON_WRONG_CALL);
+}
+
+/* The control of a row, by what is given for marked; no refusal depends on that. */
+static void marked_windows(void)
+{
+    static const uint32_t yes[] = {1, 2, 0x80000000, 0xFFFFFFFF};
+    uint64_t *row = windows + 48;
+    size_t i;
+    for (i = 0; i < 4; i++) {
+        expect("marked packets may pass", set_first(yes[i]) == SIPHON_DONE && row[2] == 0x3014);
+    }
+    expect("no slot 16", siphon_set_window(1, 16, 0, 0, 12, 0, 1, windows, SIPHON_WINDOWS) == SIPHON_WRONG_CALL);
+    expect("k too large", siphon_set_window(1, 1, 0, 0, 40, 0, 1, windows, SIPHON_WINDOWS) == SIPHON_WINDOW_VALUES);
+    expect("over another", siphon_set_window(1, 1, 0x900FF000, 0, 12, 0, 1, windows, SIPHON_WINDOWS) == SIPHON_OVERLAP);
+    expect("the next row is empty", row[3] == 0 && row[4] == 0 && row[5] == 0);
+    expect("base and target stand", row[0] == 0x90000000 && row[1] == 0x140000000);
+    expect("none may pass", set_first(0) == SIPHON_DONE && row[2] == 0x1014);
 }
 
 static void number_calls(void)
@@ -110,11 +133,71 @@ static void passing(void)
     expect("no packet", pass(1, 0, 0, SIPHON_OUT, 8) == SIPHON_FORM && answer_is(dropped));
 }
 
+/* Marked packets, and the answers to them. */
+static const uint8_t marked_read[] = {0, 0, 0x40, 1, 3, 0, 5, 0x0F, 0x90, 0, 0, 0x10};
+static const uint8_t marked_far_read[] = {0, 0, 0x40, 1, 3, 0, 5, 0x0F, 0xA0, 0, 0, 0x10};
+static const uint8_t marked_write[] = {0x40, 0, 0x40, 1, 3, 0, 5, 0x0F, 0x90, 0, 0, 0x10, 1, 2, 3, 4};
+static const uint8_t marked_strange_write[] = {0x40, 0, 0x40, 1, 3, 1, 5, 0x0F, 0x90, 0, 0, 0x10, 1, 2, 3, 4};
+static const uint8_t marked_completion[] = {0x4A, 0, 0x40, 1, 1, 0, 0, 4, 1, 0x46, 5, 0x10, 1, 2, 3, 4};
+static const uint8_t marked_stray[] = {0x4A, 0, 0x40, 1, 1, 0, 0, 4, 1, 0x47, 5, 0x10, 1, 2, 3, 4};
+static const uint32_t marked_answered[] = {SIPHON_ANSWERED, 1, 12, 3, 0x0A000000, 0x02002004, 0x03000510, 0};
+static const uint32_t marked_dropped[] = {SIPHON_DROPPED, 0, 0, 0, 0, 0, 0, 0};
+static const uint32_t read_crossed[] = {SIPHON_CROSSED, 0, 16, 4, 0x20004001, 0x0146050F, 0x00000001, 0x40000010};
+static const uint32_t write_crossed[] = {SIPHON_CROSSED, 0, 20, 4, 0x60004001, 0x0146050F, 0x00000001, 0x40000010};
+static const uint32_t came_back[] = {SIPHON_CROSSED, 1, 16, 3, 0x4A004001, 0x02000004, 0x03000510, 0};
+
+/* The window lets no marked packet pass. */
+static void marked_refused(void)
+{
+    expect("a marked write is refused", pass(1, marked_write, 16, sizeof out, 10) == SIPHON_POISONED && answer_is(marked_dropped));
+    expect("and logged as poisoned", logs[6] == (0xAAAAAAAA | 1u << SIPHON_LOG_POISONED));
+    expect("a marked read is answered", pass(1, marked_read, 12, sizeof out, 10) == SIPHON_POISONED && answer_is(marked_answered));
+    expect("5 comes before 7", pass(1, marked_strange_write, 16, sizeof out, 10) == SIPHON_POISONED);
+    expect("6 comes before 5", pass(1, marked_far_read, 12, sizeof out, 10) == SIPHON_NO_WINDOW && answer_is(marked_answered));
+    expect("and is logged as 6", logs[6] == (0xAAAAAAAA | 1u << SIPHON_LOG_UNSUPPORTED));
+    expect("a marked completion is refused", pass(0, marked_completion, 16, sizeof out, 10) == SIPHON_POISONED && answer_is(marked_dropped));
+    expect("and logged in its sender's row", logs[0] == (0xAAAAAAAA | 1u << SIPHON_LOG_POISONED) && logs[6] == 0xAAAAAAAA);
+    expect("9 comes before 5", pass(0, marked_stray, 16, sizeof out, 10) == SIPHON_NOT_PASSABLE && answer_is(marked_dropped));
+    expect("and is logged as 9", logs[0] == (0xAAAAAAAA | 1u << SIPHON_LOG_UNEXPECTED_COMPLETION));
+}
+
+/* The window lets them pass. */
+static void marked_crossing(void)
+{
+    expect("marked packets are let through", set_first(1) == SIPHON_DONE);
+    expect("a marked write crosses", pass(1, marked_write, 16, sizeof out, 10) == SIPHON_DONE && answer_is(write_crossed));
+    expect("with EP, and with its data", out[0] == 0x60 && out[2] == 0x40 && out[16] == 1 && out[19] == 4);
+    expect("and is not logged", all_are(0xAA, 8, 20));
+    expect("a marked read crosses", pass(1, marked_read, 12, sizeof out, 10) == SIPHON_DONE && answer_is(read_crossed));
+    expect("a marked write with no entry", pass(1, marked_strange_write, 16, sizeof out, 10) == SIPHON_NO_ENTRY);
+    expect("a marked completion crosses", pass(0, marked_completion, 16, sizeof out, 10) == SIPHON_DONE && answer_is(came_back));
+    expect("with EP, and is not logged", out[0] == 0x4A && out[2] == 0x40 && all_are(0xAA, 8, 16));
+}
+
+/* The same range in two slots, which no call sets: the lower slot alone counts for a request, any for a completion. */
+static void marked_in_two_slots(void)
+{
+    uint64_t *row = windows + 48;
+    memcpy(row + 3, row, 3 * sizeof *row);
+    row[2] = 0x1014;
+    expect("a later window is not looked at", pass(1, marked_write, 16, sizeof out, 10) == SIPHON_POISONED);
+    expect("any window does for a completion", pass(0, marked_completion, 16, sizeof out, 10) == SIPHON_DONE && answer_is(came_back));
+    row[5] = 0x7014;
+    expect("with bit 14 a row is not in force", pass(0, marked_completion, 16, sizeof out, 10) == SIPHON_POISONED);
+    row[2] = 0x5014;
+    expect("whatever bit 13 is", pass(1, marked_write, 16, sizeof out, 10) == SIPHON_NO_WINDOW);
+    expect("and leads nowhere", pass(0, marked_completion, 16, sizeof out, 10) == SIPHON_NOT_PASSABLE);
+}
+
 int main(void)
 {
     window_calls();
+    marked_windows();
     number_calls();
     passing();
+    marked_refused();
+    marked_crossing();
+    marked_in_two_slots();
     logs[6] = 0x00101000;
     expect("a log is cleared", siphon_clear_log(1, 0x00100000, logs, SIPHON_LOGS) == SIPHON_DONE && logs[6] == 0x00001000);
     expect("logs too short", siphon_clear_log(1, 0x00001000, logs, SIPHON_LOGS - 1) == SIPHON_WRONG_CALL && logs[6] == 0x00001000);

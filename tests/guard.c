@@ -33,7 +33,7 @@ static struct room rooms[6];
 static unsigned long calls;
 
 /* A record, or its next word. */
-static unsigned char record[40];
+static unsigned char record[44];
 
 static uint32_t word(int i) {
     const unsigned char *b = record + 4 * i;
@@ -105,7 +105,7 @@ static int edit_windows(uint32_t call, uint32_t *number) {
     uint64_t *table = lay(&rooms[1], windows, 8 * lent_windows);
     if (call == 2)
         *number = siphon_set_window(word(1), word(2), (uint64_t)word(3) << 32 | word(4), (uint64_t)word(5) << 32 | word(6),
-                                    word(7), word(8), table, lent_windows);
+                                    word(7), word(8), word(9), table, lent_windows);
     else
         *number = siphon_empty_window(word(1), word(2), table, lent_windows);
     return take(&rooms[1], windows);
@@ -171,8 +171,8 @@ static int make(void) {
     uint32_t call = word(0), number = 0;
     int is_kept = 1;
     if (call == 1)
-        return pass(word(9));
-    if (word(9) != 0 || call == 0 || call > 11)
+        return pass(word(10));
+    if (word(10) != 0 || call == 0 || call > 11)
         return 0;
     if (call <= 3)
         is_kept = edit_windows(call, &number);

@@ -123,7 +123,7 @@ expect 'no compiler: what is missing' grep -qF 'package rustc' "$work/log"
 
 # on x86-64: the calls, and the lesson
 made 'the tests with the library are linked' tools/link-rust "$work/linked" "$wrapper" --test
-tested "$work/linked" 15
+tested "$work/linked" 16
 lesson="$work/a folder/lesson"
 mkdir "$work/a folder"
 cp examples/rust/lesson.rs "$lesson.rs"

@@ -1,5 +1,7 @@
-/* A lesson over the switch, from C: a window is open for student 15, a read crosses and its completion comes back; then an
-   examination, where the same read is refused and logged. Prints each step; ends with 1 if a call returned another number. */
+/* A lesson over the switch, from C: a window is open for student 15, a read crosses and its completion comes back; then a
+   marked breakdown, where a write with EP set crosses through the window that the teacher chose and is refused at the next;
+   then an examination, where the same read is refused and logged. Prints each step; ends with 1 if a call returned another
+   number. */
 #include <stdint.h>
 #include <stdio.h>
 #include <string.h>
@@ -91,6 +93,23 @@ static void print_log(uint32_t p)
     print_words(row + 2, 4);
 }
 
+/* Opens a window of 1 MiB in a slot of student 15, to the teacher; marked packets may pass where marked is not 0. */
+static void open_window(uint32_t slot, uint64_t base, uint64_t target, uint32_t marked)
+{
+    uint32_t number = siphon_set_window(STUDENT, slot, base, target, 20, TEACHER, marked, windows, SIPHON_WINDOWS);
+    must("siphon_set_window", number, SIPHON_DONE);
+}
+
+static void shut_window(uint32_t slot)
+{
+    must("siphon_empty_window", siphon_empty_window(STUDENT, slot, windows, SIPHON_WINDOWS), SIPHON_DONE);
+}
+
+static void clear_log(uint32_t p)
+{
+    must("siphon_clear_log", siphon_clear_log(p, 0xFFFFFFFF, logs, SIPHON_LOGS), SIPHON_DONE);
+}
+
 /* Empty tables, and every partition on a bus of its own. */
 static void begin(void)
 {
@@ -109,25 +128,36 @@ int main(void)
 {
     static const uint32_t read[] = {0x00000001, 0x0300050F, 0x90000010};
     static const uint32_t completion[] = {0x4A000001, 0x01000004, 0x017C0510, 0x00000037};
-    uint32_t number;
+    static const uint32_t marked_write[] = {0x40004001, 0x0300060F, 0x90000010, 0x000000FF};
+    static const uint32_t marked_beside[] = {0x40004001, 0x0300060F, 0x90100010, 0x000000FF};
+    static const uint32_t marked_completion[] = {0x4A004001, 0x01000004, 0x017C0510, 0x00000037};
 
     begin();
     printf("A class: the window of student 15 is open.\n");
-    number = siphon_set_window(STUDENT, 0, 0x90000000, 0x140000000, 20, TEACHER, windows, SIPHON_WINDOWS);
-    must("siphon_set_window", number, SIPHON_DONE);
+    open_window(0, 0x90000000, 0x140000000, 0);
     pass("a read", STUDENT, read, 3, SIPHON_DONE);
     pass("its completion", TEACHER, completion, 4, SIPHON_DONE);
     print_log(STUDENT);
 
-    printf("An examination: the window is shut.\n");
-    must("siphon_empty_window", siphon_empty_window(STUDENT, 0, windows, SIPHON_WINDOWS), SIPHON_DONE);
+    printf("A marked breakdown: marked packets may pass at the window of 90000000, and not at its neighbour of 90100000.\n");
+    open_window(0, 0x90000000, 0x140000000, 1);
+    open_window(1, 0x90100000, 0x140100000, 0);
+    pass("a marked write", STUDENT, marked_write, 4, SIPHON_DONE);
+    pass("the same write at the neighbour", STUDENT, marked_beside, 4, SIPHON_POISONED);
+    pass("a marked completion", TEACHER, marked_completion, 4, SIPHON_DONE);
+    print_log(STUDENT);
+
+    printf("An examination: the log is cleared, and both windows are shut.\n");
+    clear_log(STUDENT);
+    shut_window(0);
+    shut_window(1);
     pass("the same read", STUDENT, read, 3, SIPHON_NO_WINDOW);
     pass("the same completion", TEACHER, completion, 4, SIPHON_NOT_PASSABLE);
     print_log(STUDENT);
     print_log(TEACHER);
 
     printf("Afterwards: the log is cleared.\n");
-    must("siphon_clear_log", siphon_clear_log(STUDENT, 0xFFFFFFFF, logs, SIPHON_LOGS), SIPHON_DONE);
+    clear_log(STUDENT);
     print_log(STUDENT);
     return wrong;
 }

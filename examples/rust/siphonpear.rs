@@ -86,7 +86,7 @@ impl fmt::Display for Refusal {
             Refusal::SenderInactive => "the sender is inactive",
             Refusal::Form => "the packet is malformed",
             Refusal::NotCarried => "packets of this kind are not carried",
-            Refusal::Poisoned => "the packet is poisoned",
+            Refusal::Poisoned => "the packet is poisoned, and may not pass there",
             Refusal::NoWindow => "no window of the sender covers the address",
             Refusal::NoEntry => "no entry of the sender holds the requester ID",
             Refusal::DestinationInactive => "the window leads to an inactive partition",
@@ -268,6 +268,8 @@ pub struct Window {
     pub target: u64,
     pub k: u32,
     pub to: u32,
+    /// Whether marked packets may pass: poisoned ones, with EP set. Packets without EP pass either way.
+    pub marked: bool,
 }
 
 /// The three tables. Any words may stand in them; docs/RULES.md says what each means.
@@ -333,6 +335,7 @@ mod ffi {
             target: u64,
             k: u32,
             q: u32,
+            marked: u32,
             windows: *mut u64,
             windows_length: usize,
         ) -> u32;
@@ -374,10 +377,11 @@ mod ffi {
 
         /// Opens a window in a slot, 0 to 15, of partition `p`. Refusals 1, 10 and 11.
         pub fn set_window(&mut self, p: u32, slot: u32, window: Window) -> Result<(), Refusal> {
-            let Window { base, target, k, to } = window;
+            let Window { base, target, k, to, marked } = window;
+            let marked = u32::from(marked);
             let table = &mut self.windows;
             // SAFETY: one table, borrowed by `&mut`, with its own length.
-            Refusal::check(unsafe { siphon_set_window(p, slot, base, target, k, to, table.as_mut_ptr(), table.len()) })
+            Refusal::check(unsafe { siphon_set_window(p, slot, base, target, k, to, marked, table.as_mut_ptr(), table.len()) })
         }
 
         /// Shuts the window in a slot, 0 to 15, of partition `p`. Refusal 1.

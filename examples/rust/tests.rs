@@ -124,8 +124,8 @@ mod linked {
 
     fn sheet() -> Result<Switch, Refusal> {
         let mut switch = Switch::new();
-        switch.set_window(1, 0, Window { base: 0x90000000, target: 0x140000000, k: 20, to: 0 })?;
-        switch.set_window(1, 1, Window { base: 0xA0000000, target: 0, k: 12, to: 3 })?;
+        switch.set_window(1, 0, Window { base: 0x90000000, target: 0x140000000, k: 20, to: 0, marked: false })?;
+        switch.set_window(1, 1, Window { base: 0xA0000000, target: 0, k: 12, to: 3, marked: false })?;
         switch.set_entry(1, 2, 0x0300)?;
         for (p, bus) in [(0, 1), (1, 2), (2, 2)] {
             switch.set_bus(p, bus)?;
@@ -167,6 +167,29 @@ mod linked {
         }
         assert!(out[16..].iter().all(|byte| *byte == 0xAA));
         assert_eq!(switch, sheet()?);
+        Ok(())
+    }
+
+    /// The same marked write at two windows side by side, and a marked completion back.
+    #[test]
+    fn marked_packets_pass_where_a_window_lets_them() -> Result<(), Refusal> {
+        let (mut switch, mut out) = (sheet()?, [0xAA; OUT]);
+        let write = |address| Words(&[0x40004001, 0x0300050F, address, 7]).bytes();
+        let completion = Words(&[0x4A004001, 0x01000004, 0x01460510, 0x11223344]).bytes();
+        assert_eq!(switch.pass(0, &completion, &mut out), Outcome::Dropped(Refusal::Poisoned));
+        let chosen = Window { base: 0x90000000, target: 0x140000000, k: 20, to: 0, marked: true };
+        let beside = Window { base: 0x90100000, target: 0x140100000, marked: false, ..chosen };
+        switch.set_window(1, 0, chosen)?;
+        switch.set_window(1, 2, beside)?;
+        assert_eq!((switch.windows[50], switch.windows[56]), (0x3014, 0x1014));
+        let line = "crossed, 20 bytes in 0: 60004001 0146050F 00000001 40000010 00000007";
+        assert_eq!(switch.pass(1, &write(0x90000010), &mut out).to_string(), line);
+        let line = "crossed, 16 bytes in 1: 4A004001 02000004 03000510 11223344";
+        assert_eq!(switch.pass(0, &completion, &mut out).to_string(), line);
+        assert_eq!((switch.log(0)?.status, switch.log(1)?.status), (LogBit::Poisoned.mask(), 0));
+        assert_eq!(switch.pass(1, &write(0x90100010), &mut out), Outcome::Dropped(Refusal::Poisoned));
+        assert_eq!(switch.log(1)?.first(), Some(LogBit::Poisoned));
+        assert_eq!(switch.pass(1, &write(0x90200010), &mut out), Outcome::Dropped(Refusal::NoWindow));
         Ok(())
     }
 
@@ -214,11 +237,13 @@ mod linked {
     #[test]
     fn each_refusal_of_a_table_call_is_met_and_changes_nothing() -> Result<(), Refusal> {
         let mut switch = sheet()?;
-        let window = Window { base: 0xB0000000, target: 0, k: 12, to: 0 };
-        let inside = Window { base: 0x900FF000, ..window };
-        assert_eq!(switch.set_window(1, 2, inside), Err(Refusal::Overlap));
-        for wrong in [Window { k: 11, ..window }, Window { to: 1, ..window }] {
-            assert_eq!(switch.set_window(1, 2, wrong), Err(Refusal::WindowValues));
+        let window = Window { base: 0xB0000000, target: 0, k: 12, to: 0, marked: false };
+        for marked in [false, true] {
+            let inside = Window { base: 0x900FF000, marked, ..window };
+            assert_eq!(switch.set_window(1, 2, inside), Err(Refusal::Overlap));
+            for wrong in [Window { k: 11, marked, ..window }, Window { to: 1, marked, ..window }] {
+                assert_eq!(switch.set_window(1, 2, wrong), Err(Refusal::WindowValues));
+            }
         }
         assert_eq!(switch.set_entry(1, 3, 0x0300), Err(Refusal::Repetition));
         for large in [16, u32::MAX] {

@@ -8,6 +8,7 @@ pub mod Flush
 pub mod Forms
 pub mod Listed
 pub mod Logged
+pub mod Marks
 pub mod NoConfusion
 pub mod Number
 pub mod Outgoing

@@ -54,25 +54,26 @@ NoConfusion =
     (a b : Call) (x y : Sent) → Passed a x → Passed b y → x .partition ≡ y .partition → SameEntries a b
     → numberOut a x ≡ numberOut b y → tagOut a x ≡ tagOut b y → OneSender a b
 
--- "a well-formed, unpoisoned completion of a carried kind, sent from there with that number and tag": 1, 3 and 4 are not given
+-- "a well-formed .. completion of a carried kind, sent from there with that number and tag": 1, 3 and 4 are not given. "Unpoisoned" or,
+-- by R-3, marked
 pub record Completes (a : Call) (x : Sent) (c : Call) : Type 0 where
   pub lent : Lent c
   pub from-there : c .sender ≡ x .partition
   pub completion : isCompletion (kind (headerOf (c .packet))) ≡ true
   pub right-call : wrongCall (c .sender) (length (c .windows)) (length (c .numbers)) (length (c .logs)) (length (c .out)) ≡ false
   pub well-formed : packetNumber (packetOf (c .packet)) ≡ 0
-  pub unpoisoned : isPoisoned (headerOf (c .packet)) ≡ false
   pub that-number : completionRequesterId (headerOf (c .packet)) ≡ numberOut a x
   pub that-tag : completionTag (headerOf (c .packet)) ≡ tagOut a x
 
--- "the entry and both bus numbers are as they were and some window of the sender's to there is in force"
+-- "the entry and both bus numbers are as they were and some window of the sender's to there is in force"; R-3, of a marked completion:
+-- one that has the bit
 pub record Provided (a : Call) (x : Sent) (c : Call) : Type 0 where
   pub entry : getD (c .numbers) (numberOut a x % 64) 0 ≡ getD (a .numbers) (numberOut a x % 64) 0
   pub own-bus : busOf (c .numbers) (a .sender) ≡ busOf (a .numbers) (a .sender)
   pub bus : busOf (c .numbers) (x .partition) ≡ busOf (a .numbers) (x .partition)
   pub slot : ℕ
   pub slot-lt : slot < 16
-  pub window : leads (a .sender) (x .partition) (rowOf (c .windows) (a .sender) slot) ≡ true
+  pub window : leads (a .sender) (x .partition) (isPoisoned (headerOf (c .packet))) (rowOf (c .windows) (a .sender) slot) ≡ true
 
 -- an ID's two bytes
 abbrev pub idBytes : ℕ → List ℕ

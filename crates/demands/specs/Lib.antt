@@ -4,3 +4,4 @@ pub mod Settled
 pub mod Demand1
 pub mod Demand3
 pub mod Flush
+pub mod Marks

@@ -8,9 +8,9 @@ use lib.ListN.{getD}
 use lib.Bits.{bitOr}
 use Rattle.header.specs.Field.{field}
 use Rattle.header.specs.Words.{headerOf}
-use Rattle.header.specs.Fields.{requesterId, address, completionRequesterId}
+use Rattle.header.specs.Fields.{isPoisoned, requesterId, address, completionRequesterId}
 use Rattle.header.specs.Rewrite.{readdressed, renamed, returned}
-use Rattle.windows.specs.Row.{rowOf, destination, inForce, covers, leads}
+use Rattle.windows.specs.Row.{rowOf, destination, inForce, covers, admits, leads}
 use Rattle.windows.specs.Look.{translated}
 use Rattle.numbers.specs.Entries.{entryIndex, entryAt}
 use Rattle.numbers.specs.Buses.{busOf}
@@ -24,12 +24,14 @@ use Rattle.switch.specs.Rule.{busId, mappedId}
 use Rattle.switch.specs.After.{logBit}
 use Rattle.demands.specs.Call.{Call, answerOf, logsOf}
 
--- a request: by a window of the sender's in force that covers the address, and an entry of the sender's that holds the requester;
--- and it went where they say
+-- a request: by a window of the sender's in force that covers the address, the lowest such, and, R-3, with the bit where the request is
+-- marked; and by an entry of the sender's that holds the requester; and it went where they say
 pub record RequestPassed (c : Call) (x : Sent) : Type 0 where
   pub slot : ℕ
   pub slot-lt : slot < 16
   pub window : covers (c .sender) (address (headerOf (c .packet))) (rowOf (c .windows) (c .sender) slot) ≡ true
+  pub lowest : (s : ℕ) → s < slot → covers (c .sender) (address (headerOf (c .packet))) (rowOf (c .windows) (c .sender) s) ≡ false
+  pub admitted : admits (isPoisoned (headerOf (c .packet))) (rowOf (c .windows) (c .sender) slot) ≡ true
   pub place : ℕ
   pub place-lt : place < 4
   pub filled : entryAt (c .numbers) (entryIndex (c .sender) place) ≡ Held (requesterId (headerOf (c .packet)))
@@ -38,8 +40,8 @@ pub record RequestPassed (c : Call) (x : Sent) : Type 0 where
       (mappedId (busOf (c .numbers) (destination (rowOf (c .windows) (c .sender) slot))) (entryIndex (c .sender) place)))
       (destination (rowOf (c .windows) (c .sender) slot))
 
--- a completion: by a held entry of its owner's, which the number names, and a window of the owner's in force to the sender;
--- and it went to that owner
+-- a completion: by a held entry of its owner's, which the number names, and a window of the owner's in force to the sender, R-3, with the
+-- bit where the completion is marked; and it went to that owner
 pub record CompletionPassed (c : Call) (x : Sent) : Type 0 where
   pub owner : ℕ
   pub owner-lt : owner < 16
@@ -50,7 +52,7 @@ pub record CompletionPassed (c : Call) (x : Sent) : Type 0 where
   pub filled : entryAt (c .numbers) (entryIndex owner place) ≡ Held id
   pub slot : ℕ
   pub slot-lt : slot < 16
-  pub window : leads owner (c .sender) (rowOf (c .windows) owner slot) ≡ true
+  pub window : leads owner (c .sender) (isPoisoned (headerOf (c .packet))) (rowOf (c .windows) owner slot) ≡ true
   pub sent : x ≡ sentOf (returned (headerOf (c .packet)) id (busId (busOf (c .numbers) owner))) owner
 
 -- the list's bit of refusal n is set in the sender's status, and every other bit of it kept

@@ -9,11 +9,12 @@ use numbers::entries;
 use windows::edit;
 use windows::row::Window;
 
-// Sets a window.
+// Sets a window; marked packets may pass by it where bit 13 of `w` says so.
 fn set_window(name: &[u8], p: u32, slot: u32, w: Window, k: u32, q: u32, windows: &mut [u64]) {
+    let marked = w.passes_marked();
     print_answer(
         name,
-        edit::set_window(p, slot, w.base, w.target, k, q, windows),
+        edit::set_window(p, slot, w.base, w.target, k, q, marked, windows),
     );
 }
 
@@ -36,6 +37,19 @@ pub(crate) fn window(name: &[u8], p: u32, slot: u32, base: u64, target: u64, k: 
         sheet::row(base, target, 0),
         k,
         q,
+    );
+}
+
+// Sets slot 7 of partition 1 to 3, for marked packets.
+pub(crate) fn window_marked(name: &[u8], k: u32) {
+    set_over(
+        name,
+        sheet::row(0, 0, 0),
+        1,
+        7,
+        sheet::row(0xC000_0000, 0, 0x2000),
+        k,
+        3,
     );
 }
 

@@ -15,6 +15,7 @@ use crate::call::inactive;
 use crate::call::inactive_in;
 use crate::call::window;
 use crate::call::window_in;
+use crate::call::window_marked;
 use crate::call::window_over;
 use crate::sheet::row;
 
@@ -46,6 +47,12 @@ fn values() {
     window(b"the last row", 15, 15, 0, 0, 12, 14);
 }
 
+// "Setting a window takes this choice too"
+fn marked() {
+    window_marked(b"for marked packets", 12);
+    window_marked(b"for marked packets, k 11", 11);
+}
+
 // Refusal 1 comes before 10, and 10 before 11.
 fn places() {
     window(b"partition 16", 16, 0, 0, 0, 12, 0);
@@ -71,11 +78,12 @@ fn overlaps() {
     window(b"set again, over slot 1", 1, 0, 0xA000_0000, 0, 20, 0);
 }
 
-// Overlap of slot 7 with slot 5, which is in force only in the first line.
+// Overlap of slot 7 with slot 5, which is in force only in the first two lines.
 fn out_of_force() {
     beside(b"over a row in force", row(0xC000_0000, 0, 0x1014));
+    beside(b"over one for marked packets", row(0xC000_0000, 0, 0x3014));
     beside(b"over one not enabled", row(0xC000_0000, 0, 0x0014));
-    beside(b"over spare bit 13", row(0xC000_0000, 0, 0x3014));
+    beside(b"over spare bit 14", row(0xC000_0000, 0, 0x5014));
     beside(
         b"over spare bit 63",
         row(0xC000_0000, 0, 0x8000_0000_0000_1014),
@@ -103,8 +111,8 @@ fn more_out_of_force() {
         12,
     );
     window_over(
-        b"set again over spare bit 13",
-        row(0xC000_0000, 0, 0x3014),
+        b"set again over spare bit 14",
+        row(0xC000_0000, 0, 0x5014),
         5,
         0xC000_0000,
         20,
@@ -299,6 +307,7 @@ fn other_lengths() {
 fn all_windows() {
     sizes();
     values();
+    marked();
     places();
     overlaps();
     out_of_force();

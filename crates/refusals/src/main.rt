@@ -3,6 +3,7 @@
 mod call; // the table calls, and what each answers
 mod calls; // cases of them
 mod line; // what is printed
+mod marks; // cases of it, of marked packets
 mod packet; // the passing call
 mod packets; // cases of it, over the exam sheet
 mod rubbish; // cases of it, over tables with rubbish in them
@@ -12,4 +13,5 @@ fn main() {
     calls::all();
     packets::all();
     rubbish::all();
+    marks::all();
 }

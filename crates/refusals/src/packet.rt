@@ -81,7 +81,16 @@ fn over_row(
 }
 
 // A packet over both kinds of rubbish.
-fn packet_over(name: &[u8], slot: u8, row: Window, at: u8, word: u32, p: u32, n: usize, h: Header) {
+pub(crate) fn packet_over(
+    name: &[u8],
+    slot: u8,
+    row: Window,
+    at: u8,
+    word: u32,
+    p: u32,
+    n: usize,
+    h: Header,
+) {
     let mut logs = [0u32; 96];
     over_row(name, slot, row, at, word, p, n, h, &mut logs);
     print_log(p, &logs);

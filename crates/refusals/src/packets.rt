@@ -314,7 +314,7 @@ fn digests() {
     three(b"bit 31", 0, 16, 0x8000_0001, 0x0300_050F, 0x9000_0010);
 }
 
-// Poisoned reads are answered, whatever else is wrong with them.
+// Poisoned reads are answered: by 5 where there is a window, and by 6 where there is none.
 fn poisoned() {
     one(b"A with EP", 12, 0x0000_4001, 0x0300_050F, 0x9000_0010);
     one(
@@ -334,7 +334,7 @@ fn poisoned() {
     );
 }
 
-// Poisoned writes and completions.
+// Poisoned writes, and poisoned completions, which are refused by 9 first.
 fn poisoned_others() {
     one(b"H", 16, 0x4000_4001, 0x0300_050F, 0x9000_0010);
     wide(b"a 64-bit write with EP", 20, 0x6000_4001, 1, 0x9000_0010);

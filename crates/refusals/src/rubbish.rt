@@ -14,10 +14,10 @@ use crate::sheet::store;
 // A word of all ones.
 const ONES: u64 = 0xFFFF_FFFF_FFFF_FFFF;
 
-// Each spare bit puts a row out of force; the first line has none.
+// Each spare bit puts a row out of force; the first two lines have none.
 fn spare_bits() {
     read_b(b"a row in force", row(0xB000_0000, 0x2_0000_0000, 0x1014));
-    read_b(b"spare bit 13", row(0xB000_0000, 0, 0x3014));
+    read_b(b"bit 13 is not spare", row(0xB000_0000, 0, 0x3014));
     read_b(b"spare bit 14", row(0xB000_0000, 0, 0x5014));
     read_b(b"spare bit 15", row(0xB000_0000, 0, 0x9014));
     read_b(b"spare bit 16", row(0xB000_0000, 0, 0x1_1014));
@@ -58,7 +58,7 @@ fn lowest_rows() {
     );
     read_row_0(
         b"slot 0, out of force, over slot 1",
-        row(0, 0x7_0000_0000, 0x3220),
+        row(0, 0x7_0000_0000, 0x5220),
         0xA000_0010,
     );
     read_row(
@@ -222,8 +222,8 @@ fn completions() {
 fn leading_rows() {
     back_row(b"B, slot 0 in force elsewhere", row(0, 0, 0x100C));
     back_row(
-        b"B, slot 0 with spare bit 13",
-        row(0x9000_0000, 0x1_4000_0000, 0x3014),
+        b"B, slot 0 with spare bit 14",
+        row(0x9000_0000, 0x1_4000_0000, 0x5014),
     );
     back_row(
         b"B, slot 0 unaligned",

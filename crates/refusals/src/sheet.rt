@@ -15,8 +15,8 @@ pub(crate) fn row(base: u64, target: u64, control: u64) -> Window {
 
 // Partition 1, slot 0: to 0. Slot 1: to 3.
 pub(crate) fn put_windows(windows: &mut [u64]) {
-    edit::set_window(1, 0, 0x9000_0000, 0x1_4000_0000, 20, 0, windows);
-    edit::set_window(1, 1, 0xA000_0000, 0, 12, 3, windows);
+    edit::set_window(1, 0, 0x9000_0000, 0x1_4000_0000, 20, 0, false, windows);
+    edit::set_window(1, 1, 0xA000_0000, 0, 12, 3, false, windows);
 }
 
 // Three partitions from `p` on are inactive.

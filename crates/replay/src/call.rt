@@ -99,7 +99,7 @@ fn made(
     logs: &mut [u32],
     out: &mut [u8],
 ) -> Step {
-    let n = words::word(record, 36);
+    let n = words::word(record, 40);
     if words::word(record, 0) == 1 {
         let p = words::word(record, 4);
         if packet::pass(p, n, lent, windows, numbers, logs, out) {
@@ -121,12 +121,12 @@ pub(crate) fn next(
     logs: &mut [u32],
     out: &mut [u8],
 ) -> Step {
-    let mut record = [0u8; 40];
+    let mut record = [0u8; 44];
     let n = io::read_full(STDIN_FILENO, &mut record);
     if n == 0 {
         return Step::End;
     }
-    if n < 40 {
+    if n < 44 {
         return broken();
     }
     made(&record, lent, windows, numbers, logs, out)

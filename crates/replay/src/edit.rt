@@ -18,6 +18,7 @@ fn set_window(record: &[u8], windows: &mut [u64]) -> u32 {
         joined(words::word(record, 20), words::word(record, 24)),
         words::word(record, 28),
         words::word(record, 32),
+        words::word(record, 36),
         windows,
     )
 }

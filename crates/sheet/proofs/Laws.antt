@@ -3,3 +3,4 @@ pub mod Cases
 pub mod Short
 pub mod Witness
 pub mod Flush
+pub mod Marks

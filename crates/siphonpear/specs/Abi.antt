@@ -1,13 +1,18 @@
--- An answer of the switch as numbers: the one that a call returns, and the eight words that it writes.
+-- What C sees as numbers: a choice, the number that a call returns, and the eight words of an answer.
 use Prim.Native.Nat.{ℕ}
+use mathlib.Core.Bool.{Bool, not}
 use mathlib.Core.List.{List, [], _∷_}
 use lib.ListN.{length}
-use lib.Dec.{ltb}
+use lib.Dec.{eqb, ltb}
 use Rattle.header.specs.Pick.{pick}
 use Rattle.tlp.specs.Write.{over}
 use Rattle.switch.specs.declared.answer.Sent.{Sent}
 use Rattle.switch.specs.Answer.{Answer, crossed, answered, dropped}
 use Rattle.switch.specs.Rule.{passRule}
+
+-- a choice that is given as a number: 0 is no, and any other is yes
+abbrev pub isYes : ℕ → Bool
+isYes n = not (eqb n 0)
 
 -- the number that is returned: 0 for crossed, else the refusal's
 abbrev pub numberOf : Answer → ℕ

@@ -4,11 +4,12 @@ ghost use Rattle.windows.specs.Edit.{setWindowNumber, setWindowAfter, emptyWind
 ghost use Rattle.numbers.specs.Entries.{setEntryNumber, setEntryAfter, freeEntryNumber, freeEntryAfter};
 ghost use Rattle.numbers.specs.Buses.{setBusNumber, setBusAfter, makeInactiveNumber, makeInactiveAfter};
 ghost use Rattle.logs.specs.Logs.{clearNumber, clearAfter};
+ghost use Rattle.siphonpear.specs.Abi.{isYes};
 use numbers::buses;
 use numbers::entries;
 use windows::edit;
 
-// Sets a window, which is then enabled.
+// Sets a window, which is then enabled; marked packets may pass by it where `marked` is not 0.
 #[no_mangle]
 pub extern "C" fn siphon_set_window(
     p: u32,
@@ -17,12 +18,13 @@ pub extern "C" fn siphon_set_window(
     target: u64,
     k: u32,
     q: u32,
+    marked: u32,
     windows: &mut [u64],
 ) -> u32
     ensures { λ r. ⌜ r ≡ setWindowNumber p slot base target k q (now (windows .entry)) ⌝ }
-    ensures { λ r. ⌜ now (windows .exit) ≡ setWindowAfter p slot base target k q (now (windows .entry)) ⌝ }
+    ensures { λ r. ⌜ now (windows .exit) ≡ setWindowAfter p slot base target k q (isYes marked) (now (windows .entry)) ⌝ }
 {
-    edit::set_window(p, slot, base, target, k, q, windows).number()
+    edit::set_window(p, slot, base, target, k, q, marked != 0, windows).number()
 }
 
 // Empties a window: three zeros.

@@ -62,40 +62,49 @@ abbrev pub throughEntry : Found → Bool → ℕ → ℕ → Header → Translat
 throughEntry Nothing reading p bus h t numbers = refused reading 7 p bus h
 throughEntry (At i) reading p bus h t numbers = toDestination reading p bus h t i numbers
 
+-- 5: "EP set", and R-3: "only where the bit is absent"
+abbrev pub isStopped : Header → Bool → Bool
+isStopped h bit = isPoisoned h && not bit
+
+-- 5 "between 6 and 7 for requests": by the bit of the window, which was found before
+unfoldable pub throughMark : Bool → ℕ → ℕ → Header → Translation → List ℕ → Answer
+throughMark reading p bus h t numbers =
+    pick (isStopped h (t .marked)) (refused reading 5 p bus h) (throughEntry (entryOf numbers p (requesterId h)) reading p bus h t numbers)
+
 -- 6: "no window"
 abbrev pub throughWindow : Look → Bool → ℕ → ℕ → Header → List ℕ → Answer
 throughWindow Shut reading p bus h numbers = refused reading 6 p bus h
-throughWindow (Open t) reading p bus h numbers = throughEntry (entryOf numbers p (requesterId h)) reading p bus h t numbers
+throughWindow (Open t) reading p bus h numbers = throughMark reading p bus h t numbers
 
--- "requests": 5, "EP set"; then 6, 7, 8
+-- "requests": 6, then 5, 7, 8
 unfoldable pub requestRule : Bool → ℕ → ℕ → Header → List ℕ → List ℕ → Answer
-requestRule reading p bus h windows numbers =
-    pick (isPoisoned h) (refused reading 5 p bus h) (throughWindow (lookUp windows p (address h)) reading p bus h numbers)
+requestRule reading p bus h windows numbers = throughWindow (lookUp windows p (address h)) reading p bus h numbers
 
--- where a completion returns: "p must differ from q, be active, and have some row in force with destination q"
+-- where a completion returns: "p must differ from q, be active, and have some row in force with destination q", marked or not
 abbrev pub isPassable : ℕ → ℕ → List ℕ → List ℕ → Bool
-isPassable owner p windows numbers = not (eqb owner p) && isActive numbers owner && reaches windows owner p
+isPassable owner p windows numbers = not (eqb owner p) && isActive numbers owner && reaches windows owner p false
 
 -- a completion back: "requester ID from the entry, completer ID = 256 × bus(p)"
 abbrev pub returning : Header → ℕ → ℕ → ℕ → Answer
 returning h id owner bus = crossed (sentOf (returned h id (busId bus)) owner)
 
--- the owner of the entry: "p is i div 4"
+-- the owner of the entry, "p is i div 4": 9; 5 "after 9 for completions", where no row of the owner to p has the bit; or back
 unfoldable pub toOwner : ℕ → ℕ → ℕ → Header → List ℕ → List ℕ → Answer
 toOwner id owner p h windows numbers =
-    pick (isPassable owner p windows numbers) (returning h id owner (busOf numbers owner)) (dropped 9)
+    pick (not (isPassable owner p windows numbers)) (dropped 9)
+    (pick (isStopped h (reaches windows owner p true)) (dropped 5)
+    (returning h id owner (busOf numbers owner)))
 
 -- "entry i held"
 abbrev pub throughHeld : Entry → ℕ → ℕ → Header → List ℕ → List ℕ → Answer
 throughHeld Free i p h windows numbers = dropped 9
 throughHeld (Held id) i p h windows numbers = toOwner id (i / 4) p h windows numbers
 
--- "completions": 5, "EP set"; then 9, where the requester ID is none of "256 × bus(q) + 64 + i with i in 0..63" or what follows fails
+-- "completions": 9, where the requester ID is none of "256 × bus(q) + 64 + i with i in 0..63" or what follows fails; then 5
 unfoldable pub completionRule : ℕ → ℕ → Header → List ℕ → List ℕ → Answer
 completionRule p bus h windows numbers =
-    pick (isPoisoned h) (dropped 5)
-    (pick (not (eqb (completionRequesterId h) (mappedId bus (completionRequesterId h % 64)))) (dropped 9)
-    (throughHeld (entryAt numbers (completionRequesterId h % 64)) (completionRequesterId h % 64) p h windows numbers))
+    pick (not (eqb (completionRequesterId h) (mappedId bus (completionRequesterId h % 64)))) (dropped 9)
+    (throughHeld (entryAt numbers (completionRequesterId h % 64)) (completionRequesterId h % 64) p h windows numbers)
 
 -- 3 and 4 by the packet layer; then requests or completions
 abbrev pub packetRule : Packet → ℕ → ℕ → List ℕ → List ℕ → Answer

@@ -1,18 +1,21 @@
 // "Passing a packet from partition p": the decision, in the list's order. It only reads.
 ghost use mathlib.Core.Path.{_≡_};
-ghost use mathlib.Core.Bool.{Bool};
+ghost use mathlib.Core.Bool.{Bool, true};
 ghost use mathlib.Core.List.{List};
 ghost use Prim.Native.Nat.{ℕ, _<_};
 ghost use Rattle.header.specs.Words.{headerOf};
 ghost use Rattle.header.specs.declared.words.Header.{Header};
 ghost use Rattle.numbers.specs.declared.entries.Found.the-variants.{At};
 ghost use Rattle.tlp.specs.Form.{ruleNumber};
+ghost use Rattle.windows.specs.Look.{reaches};
 ghost use Rattle.switch.specs.Answer.{refusalNumber, onPaper};
 ghost use Rattle.switch.specs.Rule.{
   wrongCall,
   refused,
   toDestination,
   throughEntry,
+  isStopped,
+  throughMark,
   throughWindow,
   requestRule,
   isPassable,
@@ -94,6 +97,17 @@ fn through_entry(found: Found, t: Translation, numbers: &[u32]) -> Way
     }
 }
 
+// 5, "EP set", where the window lets no marked packet pass; or on.
+fn through_mark(t: Translation, p: u8, h: Header, numbers: &[u32]) -> Way
+    requires { ⌜ p < 16 ⌝ }
+    ensures { λ r. ⌜ ((reading : Bool) (bus : ℕ) → wayAnswer r reading p bus h ≡ throughMark reading p bus h t (now (numbers .entry))) ⌝ }
+{
+    if h.is_poisoned() & !t.marked {
+        return Way::Refused(Refusal::Poisoned);
+    }
+    through_entry(entries::find(numbers, p, h.requester_id()), t, numbers)
+}
+
 // 6, "no window"; or on.
 fn through_window(look: Look, p: u8, h: Header, numbers: &[u32]) -> Way
     requires { ⌜ p < 16 ⌝ }
@@ -101,18 +115,15 @@ fn through_window(look: Look, p: u8, h: Header, numbers: &[u32]) -> Way
 {
     match look {
         Look::Shut => Way::Refused(Refusal::NoWindow),
-        Look::Open(t) => through_entry(entries::find(numbers, p, h.requester_id()), t, numbers),
+        Look::Open(t) => through_mark(t, p, h, numbers),
     }
 }
 
-// Where a request goes: 5, "EP set"; or on.
+// Where a request goes: the windows are asked of its address first.
 fn route(p: u8, h: Header, windows: &[u64], numbers: &[u32]) -> Way
     requires { ⌜ p < 16 ⌝ }
     ensures { λ r. ⌜ ((reading : Bool) (bus : ℕ) → wayAnswer r reading p bus h ≡ requestRule reading p bus h (now (windows .entry)) (now (numbers .entry))) ⌝ }
 {
-    if h.is_poisoned() {
-        return Way::Refused(Refusal::Poisoned);
-    }
     through_window(look::look_up(windows, p, h.address()), p, h, numbers)
 }
 
@@ -144,7 +155,7 @@ fn finish(way: Way, reading: bool, p: u8, bus: u8, h: Header) -> Outcome
     }
 }
 
-// Requests: 5, 6, 7, 8.
+// Requests: 6, 5, 7, 8.
 fn request(reading: bool, p: u8, bus: u8, h: Header, windows: &[u64], numbers: &[u32]) -> Outcome
     requires { ⌜ p < 16 ⌝ }
     ensures { λ r. ⌜ onPaper r ≡ requestRule reading p bus h (now (windows .entry)) (now (numbers .entry)) ⌝ }
@@ -156,7 +167,17 @@ fn request(reading: bool, p: u8, bus: u8, h: Header, windows: &[u64], numbers: &
 fn is_passable(owner: u8, p: u8, windows: &[u64], numbers: &[u32]) -> bool
     ensures { λ r. ⌜ r ≡ isPassable owner p (now (windows .entry)) (now (numbers .entry)) ⌝ }
 {
-    (owner != p) & buses::is_active(numbers, owner) & look::reaches(windows, owner, p)
+    (owner != p) & buses::is_active(numbers, owner) & look::reaches(windows, owner, p, false)
+}
+
+// 5, "EP set", where no window of the owner to the sender lets marked packets pass: any one of them may.
+fn is_stopped(owner: u8, p: u8, h: Header, windows: &[u64]) -> bool
+    ensures { λ r. ⌜ r ≡ isStopped h (reaches (now (windows .entry)) owner p true) ⌝ }
+{
+    if h.is_poisoned() {
+        return !look::reaches(windows, owner, p, true);
+    }
+    false
 }
 
 // A completion back, to the owner of the entry.
@@ -166,14 +187,17 @@ fn send_back(h: Header, id: u16, owner: u8, bus: u8) -> Outcome
     Outcome::Crossed(Sent::new(h.returned(id, 256 * (bus as u16)), owner))
 }
 
-// It crosses, or 9.
+// 9, then 5; or it crosses.
 fn to_owner(id: u16, owner: u8, p: u8, h: Header, windows: &[u64], numbers: &[u32]) -> Outcome
     ensures { λ r. ⌜ onPaper r ≡ toOwner id owner p h (now (windows .entry)) (now (numbers .entry)) ⌝ }
 {
-    if is_passable(owner, p, windows, numbers) {
-        return send_back(h, id, owner, (buses::bus(numbers, owner) % 256) as u8);
+    if !is_passable(owner, p, windows, numbers) {
+        return Outcome::Dropped(Refusal::NotPassable);
     }
-    Outcome::Dropped(Refusal::NotPassable)
+    if is_stopped(owner, p, h, windows) {
+        return Outcome::Dropped(Refusal::Poisoned);
+    }
+    send_back(h, id, owner, (buses::bus(numbers, owner) % 256) as u8)
 }
 
 // 9 where the entry is free, or on.
@@ -187,13 +211,10 @@ fn through_held(entry: Entry, i: u16, p: u8, h: Header, windows: &[u64], numbers
     }
 }
 
-// Completions: 5, 9.
+// Completions: 9, 5.
 fn completion(p: u8, bus: u8, h: Header, windows: &[u64], numbers: &[u32]) -> Outcome
     ensures { λ r. ⌜ onPaper r ≡ completionRule p bus h (now (windows .entry)) (now (numbers .entry)) ⌝ }
 {
-    if h.is_poisoned() {
-        return Outcome::Dropped(Refusal::Poisoned);
-    }
     let id = h.completion_requester_id();
     let i = id % 64;
     if id != 256 * (bus as u16) + 64 + i {

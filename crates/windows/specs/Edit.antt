@@ -39,9 +39,9 @@ overlappedSlot windows p slot base k = first (otherOverlaps windows p slot base 
 abbrev pub overlaps : List ℕ → ℕ → ℕ → ℕ → ℕ → Bool
 overlaps windows p slot base k = ltb (overlappedSlot windows p slot base k) slots
 
--- the control word of a window that is set: "always enabled"
-abbrev pub controlWord : ℕ → ℕ → ℕ
-controlWord k q = place 12 1 + place 8 q + k
+-- the control word of a window that is set: "always enabled"; R-3: "setting a window takes this choice too"
+abbrev pub controlWord : ℕ → ℕ → Bool → ℕ
+controlWord k q marked = place 13 (pick marked 1 0) + place 12 1 + place 8 q + k
 
 -- the table with this row
 abbrev pub withRow : ℕ → ℕ → ℕ → ℕ → ℕ → List ℕ → List ℕ
@@ -55,9 +55,9 @@ setWindowNumber p slot base target k q windows =
     (pick (overlaps windows p slot base k) 11 0))
 
 -- the table after it: that row alone is new
-abbrev pub setWindowAfter : ℕ → ℕ → ℕ → ℕ → ℕ → ℕ → List ℕ → List ℕ
-setWindowAfter p slot base target k q windows =
-    edited (setWindowNumber p slot base target k q windows) (withRow p slot base target (controlWord k q) windows) windows
+abbrev pub setWindowAfter : ℕ → ℕ → ℕ → ℕ → ℕ → ℕ → Bool → List ℕ → List ℕ
+setWindowAfter p slot base target k q marked windows =
+    edited (setWindowNumber p slot base target k q windows) (withRow p slot base target (controlWord k q marked) windows) windows
 
 -- "empty it (three zeros)": refusal 1
 unfoldable pub emptyWindowNumber : ℕ → ℕ → List ℕ → ℕ

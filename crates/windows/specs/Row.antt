@@ -1,6 +1,6 @@
 -- "Windows": a row, its fields, and when it is in force.
 use Prim.Native.Nat.{ℕ, _+_, _-_, _*_, _%_, _^_}
-use mathlib.Core.Bool.{Bool, not, _&&_}
+use mathlib.Core.Bool.{Bool, not, _&&_, _||_}
 use mathlib.Core.List.{List}
 use lib.ListN.{getD}
 use lib.Dec.{eqb, ltb, leb}
@@ -35,9 +35,13 @@ destination w = field 8 4 (w .control)
 abbrev pub isEnabled : Window → Bool
 isEnabled w = eqb (field 12 1 (w .control)) 1
 
--- control: "all others zero", which is every bit from 13 on
+-- R-3, control: "bit 13 of a window row means that marked packets may pass"
+abbrev pub passesMarked : Window → Bool
+passesMarked w = eqb (field 13 1 (w .control)) 1
+
+-- control: "bits above stay zero", which is every bit from 14 on
 abbrev pub spareZero : Window → Bool
-spareZero w = ltb (w .control) (2 ^ 13)
+spareZero w = ltb (w .control) (2 ^ 14)
 
 -- "12 ≤ k ≤ 39"
 abbrev pub isSized : ℕ → Bool
@@ -63,6 +67,10 @@ spans base k a = leb base a && ltb (a - base) (2 ^ k)
 abbrev pub covers : ℕ → ℕ → Window → Bool
 covers p a w = inForce p w && spans (w .base) (exponent w) a
 
--- a row "in force with destination q"
-abbrev pub leads : ℕ → ℕ → Window → Bool
-leads p q w = inForce p w && eqb (destination w) q
+-- R-3: the row lets a packet pass as far as its mark goes: it has none, or the row has the bit
+abbrev pub admits : Bool → Window → Bool
+admits marked w = not marked || passesMarked w
+
+-- a row "in force with destination q", for packets so marked
+abbrev pub leads : ℕ → ℕ → Bool → Window → Bool
+leads p q marked w = inForce p w && eqb (destination w) q && admits marked w

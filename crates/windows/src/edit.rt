@@ -12,6 +12,7 @@ ghost use Rattle.windows.specs.Edit.{
   otherOverlaps,
   overlappedSlot,
   overlaps,
+  controlWord,
   withRow,
   setWindowNumber,
   setWindowAfter,
@@ -92,6 +93,18 @@ fn overlaps(windows: &[u64], p: u8, slot: u8, base: u64, k: u32) -> bool
     overlapped_slot(windows, p, slot, base, k) < Window::SLOTS
 }
 
+// The control word of a window that is set: enabled, and with bit 13 as chosen.
+fn control_word(k: u32, q: u32, marked: bool) -> u32
+    requires { ⌜ (k ≤ 39) × (q ≤ 15) ⌝ }
+    ensures { λ r. ⌜ r ≡ controlWord k q marked ⌝ }
+{
+    let word = 4096 + 256 * q + k;
+    if marked {
+        return 8192 + word;
+    }
+    word
+}
+
 // Writes a row.
 fn put_row(windows: &mut [u64], p: u8, s: u8, w: Window)
     requires { ⌜ rowAt p s + 3 ≤ length (now windows) ⌝ }
@@ -103,7 +116,7 @@ fn put_row(windows: &mut [u64], p: u8, s: u8, w: Window)
     windows[at + 2] = w.control;
 }
 
-// Sets a window, which is then enabled.
+// Sets a window, which is then enabled; marked packets may pass by it, or not.
 pub fn set_window(
     p: u32,
     slot: u32,
@@ -111,10 +124,11 @@ pub fn set_window(
     target: u64,
     k: u32,
     q: u32,
+    marked: bool,
     windows: &mut [u64],
 ) -> Answer
     ensures { λ r. ⌜ answerNumber r ≡ setWindowNumber p slot base target k q (now (windows .entry)) ⌝ }
-    ensures { λ r. ⌜ now (windows .exit) ≡ setWindowAfter p slot base target k q (now (windows .entry)) ⌝ }
+    ensures { λ r. ⌜ now (windows .exit) ≡ setWindowAfter p slot base target k q marked (now (windows .entry)) ⌝ }
 {
     if wrong_window(p, slot, windows.len()) {
         return Answer::WrongCall;
@@ -125,7 +139,7 @@ pub fn set_window(
     if overlaps(windows, p as u8, slot as u8, base, k) {
         return Answer::Overlap;
     }
-    let control = (4096 + 256 * q + k) as u64;
+    let control = control_word(k, q, marked) as u64;
     put_row(
         windows,
         p as u8,

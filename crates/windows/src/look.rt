@@ -1,13 +1,22 @@
 // The look-up: what becomes of an address, and who leads where.
 ghost use mathlib.Core.Path.{_≡_};
 ghost use Prim.Native.Nat.{_+_, _-_, _≤_, _<_, _^_};
-ghost use Rattle.windows.specs.Look.{slotCovers, lowestSlot, translated, lookUp, slotLeads, leadingSlot, reaches};
+ghost use Rattle.windows.specs.Look.{
+  slotCovers,
+  lowestSlot,
+  translated,
+  lookUp,
+  slotLeads,
+  leadingSlot,
+  reaches,
+};
 use crate::row::Window;
 
-// What a window makes of an address, and where it leads.
+// What a window makes of an address, where it leads, and whether marked packets may pass by it.
 pub struct Translation {
     pub destination: u8,
     pub address: u64,
+    pub marked: bool,
 }
 
 // What the windows say of an address: none covers it, or the lowest slot that does translates it.
@@ -45,6 +54,7 @@ fn translate(w: Window, a: u64) -> Translation
     Translation {
         destination: w.destination(),
         address: a - w.base + w.target,
+        marked: w.passes_marked(),
     }
 }
 
@@ -60,20 +70,20 @@ pub fn look_up(windows: &[u64], p: u8, a: u64) -> Look
     }
 }
 
-// Slot `s` of `p` is in force with destination `q`.
-fn slot_leads(windows: &[u64], p: u8, q: u8, s: u8) -> bool
-    ensures { λ r. ⌜ r ≡ slotLeads (now (windows .entry)) p q s ⌝ }
+// Slot `s` of `p` is in force with destination `q`, and packets so marked may pass by it.
+fn slot_leads(windows: &[u64], p: u8, q: u8, marked: bool, s: u8) -> bool
+    ensures { λ r. ⌜ r ≡ slotLeads (now (windows .entry)) p q marked s ⌝ }
 {
-    Window::read(windows, p, s).leads(p, q)
+    Window::read(windows, p, s).leads(p, q, marked)
 }
 
-// The lowest slot of `p` that is in force with destination `q`; 16 where none is.
-fn leading_slot(windows: &[u64], p: u8, q: u8) -> u8
-    ensures { λ r. ⌜ r ≡ leadingSlot (now (windows .entry)) p q ⌝ }
+// The lowest such slot of `p`; 16 where there is none.
+fn leading_slot(windows: &[u64], p: u8, q: u8, marked: bool) -> u8
+    ensures { λ r. ⌜ r ≡ leadingSlot (now (windows .entry)) p q marked ⌝ }
 {
     let mut s: u8 = 0;
     while s < Window::SLOTS {
-        if slot_leads(windows, p, q, s) {
+        if slot_leads(windows, p, q, marked, s) {
             return s;
         }
         s += 1;
@@ -81,9 +91,9 @@ fn leading_slot(windows: &[u64], p: u8, q: u8) -> u8
     s
 }
 
-// "Some row in force with destination q".
-pub fn reaches(windows: &[u64], p: u8, q: u8) -> bool
-    ensures { λ r. ⌜ r ≡ reaches (now (windows .entry)) p q ⌝ }
+// "Some row in force with destination q"; for marked packets, one that "has the bit".
+pub fn reaches(windows: &[u64], p: u8, q: u8, marked: bool) -> bool
+    ensures { λ r. ⌜ r ≡ reaches (now (windows .entry)) p q marked ⌝ }
 {
-    leading_slot(windows, p, q) < Window::SLOTS
+    leading_slot(windows, p, q, marked) < Window::SLOTS
 }

@@ -6,6 +6,7 @@ ghost use Rattle.windows.specs.Row.{
   exponent,
   destination,
   isEnabled,
+  passesMarked,
   spareZero,
   isSized,
   isPlain,
@@ -13,6 +14,7 @@ ghost use Rattle.windows.specs.Row.{
   inForce,
   spans,
   covers,
+  admits,
   leads,
 };
 
@@ -64,11 +66,18 @@ impl Window {
         self.control / 4096 % 2 == 1
     }
 
-    // "All others zero"
+    // "Bit 13 .. means that marked packets may pass"
+    pub fn passes_marked(self) -> bool
+        ensures { λ r. ⌜ r ≡ passesMarked self ⌝ }
+    {
+        self.control / 8192 % 2 == 1
+    }
+
+    // "Bits above stay zero"
     pub fn spare_is_zero(self) -> bool
         ensures { λ r. ⌜ r ≡ spareZero self ⌝ }
     {
-        self.control < 8192
+        self.control < 16384
     }
 
     // In force, as far as control alone says.
@@ -99,11 +108,18 @@ impl Window {
         false
     }
 
-    // The row is in force, and its destination is `q`.
-    pub fn leads(self, p: u8, q: u8) -> bool
-        ensures { λ r. ⌜ r ≡ leads p q self ⌝ }
+    // A packet passes by the row as far as its mark goes: it has none, or the row has the bit.
+    fn admits(self, marked: bool) -> bool
+        ensures { λ r. ⌜ r ≡ admits marked self ⌝ }
     {
-        self.in_force(p) & (self.destination() == q)
+        !marked | self.passes_marked()
+    }
+
+    // The row is in force, its destination is `q`, and packets so marked may pass by it.
+    pub fn leads(self, p: u8, q: u8, marked: bool) -> bool
+        ensures { λ r. ⌜ r ≡ leads p q marked self ⌝ }
+    {
+        self.in_force(p) & (self.destination() == q) & self.admits(marked)
     }
 }
 

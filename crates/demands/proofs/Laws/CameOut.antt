@@ -8,14 +8,17 @@ use mathlib.Core.Bool.{true, false, _||_, true≢false}
 use mathlib.Core.List.{List}
 use mathlib.Core.Logic.{_⊎_, inl, inr, ⊎-elim}
 use native.Mathlib.Omega.{arith}
+use borrow.Author.Tests.{not-false}
 use lib.Dec.{eqb}
 use lib.ListN.{length, take, drop}
 use Rattle.header.specs.Field.{field}
-use Rattle.header.specs.Kind.{isRead, isWrite, isCompletion}
+use Rattle.header.specs.Kind.{isRead, isWrite, isCompletion, isCarried}
 use Rattle.header.specs.Words.{headerOf}
 use Rattle.header.specs.Fields.{kind, completionRequesterId}
 use Rattle.header.specs.Rewrite.{readdressed, renamed, returned}
 use Rattle.header.proofs.Laws.Field.{field-lt}
+use Rattle.header.specs.declared.words.Header.{Header}
+use Rattle.header.proofs.Laws.Join.{neither, one-of}
 use Rattle.header.proofs.Laws.Lengths.{total-at-most}
 use Rattle.header.proofs.Laws.Pick.{either}
 use Rattle.header.proofs.Laws.Rewrite.{readdressed-proper, renamed-proper, returned-proper}
@@ -47,6 +50,12 @@ use Rattle.demands.proofs.Laws.Outgoing.{Words64, bus-lt, bus-id-lt, tr
 pub request-form : (s : List ℕ) → IsRequest s → WellFormed (length s) (headerOf s)
 request-form s = ⊎-elim (λ e. inverted-read (length s) (headerOf s) (headerOf s) e .0) (λ e. inverted-write (length s) (headerOf s) (headerOf s) e .0)
 
+-- it is of a request's kind
+pub request-kind : (n : ℕ) (h : Header) → WellFormed n h → (isRead (kind h) || isWrite (kind h)) ≡ true
+request-kind n h w =
+    let carried : isCarried (kind h) ≡ true = not-false (isCarried (kind h)) (neither _ _ (neither _ _ (w .carried) .0) .0) in
+    ⊎-elim (λ e. e) (λ e. absurd (true≢false (sym e ∙ w .request))) (one-of (isRead (kind h) || isWrite (kind h)) (isCompletion (kind h)) carried)
+
 -- what breaks no rule is a request or a completion
 sort : (s : List ℕ) → packetNumber (packetOf s) ≡ 0 → IsRequest s ⊎ IsCompletion s
 sort s e = by-packet (packetOf s) refl e
@@ -69,7 +78,7 @@ crossed-whole (Completion h) p bus windows numbers x e = refl
 crossed-whole (Broken r) p bus windows numbers x e = absurd (let z : _≡_ {A = ℕ} 0 1 = cc in omega arith)
 
 -- so what crosses is a request or a completion
-crossed-sort : (c : Call) (x : Sent) → answerOf c ≡ crossed x → IsRequest (c .packet) ⊎ IsCompletion (c .packet)
+pub crossed-sort : (c : Call) (x : Sent) → answerOf c ≡ crossed x → IsRequest (c .packet) ⊎ IsCompletion (c .packet)
 crossed-sort c x e =
     let b = before-packet (c .sender) (c .packet) (c .windows) (c .numbers) (length (c .logs)) (length (c .out)) x e in
     sort (c .packet) (crossed-whole (packetOf (c .packet)) (c .sender) (busOf (c .numbers) (c .sender)) (c .windows) (c .numbers) x (b .2))

@@ -10,14 +10,14 @@ use lib.Dec.{eqb}
 use lib.ListN.{length}
 use Rattle.header.specs.Pick.{pick}
 use Rattle.header.specs.Words.{headerOf}
-use Rattle.header.specs.Fields.{isPoisoned, requesterId, address, completionRequesterId}
+use Rattle.header.specs.Fields.{requesterId, address, completionRequesterId}
 use Rattle.header.specs.Rewrite.{readdressed, renamed, returned}
 use Rattle.header.specs.declared.words.Header.{Header}
 use Rattle.header.proofs.Laws.Pick.{either}
 use Rattle.tlp.specs.Form.{packetOf}
 use Rattle.tlp.specs.declared.form.Packet.{Packet}
 use Rattle.tlp.specs.declared.form.Packet.the-variants.{Read, Write, Completion}
-use Rattle.windows.specs.Look.{lookUp}
+use Rattle.windows.specs.Look.{lookUp, reaches}
 use Rattle.windows.specs.declared.look.Translation.{Translation}
 use Rattle.windows.specs.declared.look.Look.{Look}
 use Rattle.windows.specs.declared.look.Look.the-variants.{Shut, Open}
@@ -30,7 +30,7 @@ use Rattle.numbers.specs.declared.entries.Found.the-variants.{Nothing, At}
 use Rattle.numbers.proofs.Laws.Entries.{found-holds}
 use Rattle.switch.specs.declared.answer.Sent.{Sent}
 use Rattle.switch.specs.Answer.{Answer, crossed, answered, dropped, sentOf}
-use Rattle.switch.specs.Rule.{wrongCall, busId, mappedId, refused, toDestination, throughEntry, throughWindow, requestRule, isPassable, toOwner, throughHeld, completionRule, packetRule, passRule}
+use Rattle.switch.specs.Rule.{wrongCall, busId, mappedId, refused, toDestination, throughEntry, isStopped, throughMark, throughWindow, requestRule, isPassable, toOwner, throughHeld, completionRule, packetRule, passRule}
 use Rattle.switch.proofs.Laws.Call.{RightCall, right-call}
 
 -- the bytes are a request that breaks no rule
@@ -53,12 +53,6 @@ unfolding pick
 passed true y z x f e = absurd (f (subst IsCrossing (sym e) tt))
 passed false y z x f e = (refl, e)
 
--- a test whose other answer is no crossing held
-taken : (t : Bool) (y z : Answer) (x : Sent) → (IsCrossing z → ⊥) → pick t y z ≡ crossed x → (t ≡ true) × (y ≡ crossed x)
-unfolding pick
-taken true y z x f e = (refl, e)
-taken false y z x f e = absurd (f (subst IsCrossing (sym e) tt))
-
 -- a refused request does not cross
 no-crossing : (reading : Bool) (n p bus : ℕ) (h : Header) → IsCrossing (refused reading n p bus h) → ⊥
 unfolding refused
@@ -79,9 +73,9 @@ before-packet p s windows numbers logs out x e =
 
 -- what a request with these header words passed through: the window, the entry, the destination
 pub record Through (p : ℕ) (h : Header) (windows numbers : List ℕ) (x : Sent) : Type 0 where
-  pub whole : isPoisoned h ≡ false
   pub translation : Translation
   pub looked : lookUp windows p (address h) ≡ Open translation
+  pub admitted : isStopped h (translation .marked) ≡ false
   pub index : ℕ
   pub found : entryOf numbers p (requesterId h) ≡ At index
   pub slot : ℕ
@@ -94,21 +88,19 @@ pub record Through (p : ℕ) (h : Header) (windows numbers : List ℕ) (x : Sent
 -- reads and writes alike
 pub request-through : (reading : Bool) (p bus : ℕ) (h : Header) (windows numbers : List ℕ) (x : Sent) → requestRule reading p bus h windows numbers ≡ crossed x
     → Through p h windows numbers x
-unfolding requestRule toDestination
-request-through reading p bus h windows numbers x e =
-    let a = passed (isPoisoned h) _ _ x (no-crossing reading 5 p bus h) e in
-    by-look (a .0) (lookUp windows p (address h)) refl (a .1)
+unfolding requestRule throughMark toDestination
+request-through reading p bus h windows numbers x e = by-look (lookUp windows p (address h)) refl e
   where
-    by-found : isPoisoned h ≡ false → (t : Translation) → lookUp windows p (address h) ≡ Open t → (f : Found) → entryOf numbers p (requesterId h) ≡ f
+    by-found : (t : Translation) → lookUp windows p (address h) ≡ Open t → isStopped h (t .marked) ≡ false → (f : Found) → entryOf numbers p (requesterId h) ≡ f
         → throughEntry f reading p bus h t numbers ≡ crossed x → Through p h windows numbers x
-    by-found w t l Nothing f e = absurd (no-crossing reading 7 p bus h (subst IsCrossing (sym e) tt))
-    by-found w t l (At i) f e =
+    by-found t l w Nothing f e = absurd (no-crossing reading 7 p bus h (subst IsCrossing (sym e) tt))
+    by-found t l w (At i) f e =
         let d = passed (not (isActive numbers (t .destination))) _ _ x (no-crossing reading 8 p bus h) e in
         let g = found-holds numbers p (requesterId h) i f in
         record {
-          whole = w;
           translation = t;
           looked = l;
+          admitted = w;
           index = i;
           found = f;
           slot = g .0;
@@ -119,9 +111,11 @@ request-through reading p bus h windows numbers x e =
           sent = one-record _ x (d .1);
         }
 
-    by-look : isPoisoned h ≡ false → (l : Look) → lookUp windows p (address h) ≡ l → throughWindow l reading p bus h numbers ≡ crossed x → Through p h windows numbers x
-    by-look w Shut l e = absurd (no-crossing reading 6 p bus h (subst IsCrossing (sym e) tt))
-    by-look w (Open t) l e = by-found w t l (entryOf numbers p (requesterId h)) refl e
+    by-look : (l : Look) → lookUp windows p (address h) ≡ l → throughWindow l reading p bus h numbers ≡ crossed x → Through p h windows numbers x
+    by-look Shut l e = absurd (no-crossing reading 6 p bus h (subst IsCrossing (sym e) tt))
+    by-look (Open t) l e =
+        let a = passed (isStopped h (t .marked)) _ _ x (no-crossing reading 5 p bus h) e in
+        by-found t l (a .0) (entryOf numbers p (requesterId h)) refl (a .1)
 
 -- a request that crossed
 pub record RequestCrossed (p : ℕ) (s windows numbers : List ℕ) (logs out : ℕ) (x : Sent) : Type 0 where
@@ -149,11 +143,11 @@ request-crossed p s windows numbers logs out x r e =
 pub record CompletionCrossed (p : ℕ) (s windows numbers : List ℕ) (logs out : ℕ) (x : Sent) : Type 0 where
   pub call : RightCall p (length windows) (length numbers) logs out
   pub active : isActive numbers p ≡ true
-  pub whole : isPoisoned (headerOf s) ≡ false
   pub number : completionRequesterId (headerOf s) ≡ mappedId (busOf numbers p) (completionRequesterId (headerOf s) % 64)
   pub id : ℕ
   pub held : entryAt numbers (completionRequesterId (headerOf s) % 64) ≡ Held id
   pub passable : isPassable (completionRequesterId (headerOf s) % 64 / 4) p windows numbers ≡ true
+  pub admitted : isStopped (headerOf s) (reaches windows (completionRequesterId (headerOf s) % 64 / 4) p true) ≡ false
   pub sent : x ≡ sentOf (returned (headerOf s) id (busId (busOf numbers (completionRequesterId (headerOf s) % 64 / 4)))) (completionRequesterId (headerOf s) % 64 / 4)
 
 -- a completion that crosses has passed every test
@@ -163,27 +157,28 @@ unfolding completionRule toOwner
 completion-crossed p s windows numbers logs out x r e =
     let b = before-packet p s windows numbers logs out x e in
     let rule : Packet → Answer = λ k. packetRule k p (busOf numbers p) windows numbers in
-    let a = passed (isPoisoned (headerOf s)) _ _ x (λ z. z) (ap rule (sym r) ∙ b .2) in
     let n = completionRequesterId (headerOf s) in
-    let c = passed (not (eqb n (mappedId (busOf numbers p) (n % 64)))) _ _ x (λ z. z) (a .1) in
-    by-entry (b .0) (b .1) (a .0) (eqb-true n (mappedId (busOf numbers p) (n % 64)) (not-false (eqb n (mappedId (busOf numbers p) (n % 64))) (c .0)))
+    let c = passed (not (eqb n (mappedId (busOf numbers p) (n % 64)))) _ _ x (λ z. z) (ap rule (sym r) ∙ b .2) in
+    by-entry (b .0) (b .1) (eqb-true n (mappedId (busOf numbers p) (n % 64)) (not-false (eqb n (mappedId (busOf numbers p) (n % 64))) (c .0)))
     (entryAt numbers (n % 64)) refl (c .1)
   where
-    by-entry : RightCall p (length windows) (length numbers) logs out → isActive numbers p ≡ true → isPoisoned (headerOf s) ≡ false
+    by-entry : RightCall p (length windows) (length numbers) logs out → isActive numbers p ≡ true
         → completionRequesterId (headerOf s) ≡ mappedId (busOf numbers p) (completionRequesterId (headerOf s) % 64)
         → (t : Entry) → entryAt numbers (completionRequesterId (headerOf s) % 64) ≡ t
         → throughHeld t (completionRequesterId (headerOf s) % 64) p (headerOf s) windows numbers ≡ crossed x
         → CompletionCrossed p s windows numbers logs out x
-    by-entry c a w n Free h e = absurd (subst IsCrossing (sym e) tt)
-    by-entry c a w n (Held id) h e =
-        let d = taken (isPassable (completionRequesterId (headerOf s) % 64 / 4) p windows numbers) _ _ x (λ z. z) e in
+    by-entry c a n Free h e = absurd (subst IsCrossing (sym e) tt)
+    by-entry c a n (Held id) h e =
+        let owner = completionRequesterId (headerOf s) % 64 / 4 in
+        let d = passed (not (isPassable owner p windows numbers)) _ _ x (λ z. z) e in
+        let m = passed (isStopped (headerOf s) (reaches windows owner p true)) _ _ x (λ z. z) (d .1) in
         record {
           call = c;
           active = a;
-          whole = w;
           number = n;
           id = id;
           held = h;
-          passable = d .0;
-          sent = one-record _ x (d .1);
+          passable = not-false (isPassable owner p windows numbers) (d .0);
+          admitted = m .0;
+          sent = one-record _ x (m .1);
         }

@@ -6,13 +6,13 @@ use mathlib.Core.Bool.{true, true≢false}
 use mathlib.Core.Logic.{⊎-elim}
 use mathlib.Core.List.{List}
 use native.Mathlib.Omega.{arith}
-use lib.Dec.{eqb}
 use lib.ListN.{length}
 use Rattle.header.specs.Words.{headerOf}
-use Rattle.header.specs.Fields.{address}
+use Rattle.header.specs.Fields.{isPoisoned, address}
 use Rattle.header.proofs.Laws.Join.{both}
-use Rattle.windows.specs.Row.{rowOf, exponent, destination, inForce, spans}
+use Rattle.windows.specs.Row.{rowOf, exponent, inForce, spans}
 use Rattle.windows.specs.declared.row.Window.{Window}
+use Rattle.windows.proofs.Laws.Row.{led}
 use Rattle.demands.specs.Settled.{AllShut, NothingCrosses}
 use Rattle.demands.proofs.Laws.Crossing.{before-packet}
 use Rattle.demands.proofs.Laws.Settled.{passed-by}
@@ -32,5 +32,5 @@ nothing-crosses c x shut e =
     not-shut (c .windows) shut (c .sender) (r .slot) (right .partition) (r .slot-lt) (both (inForce (c .sender) w) (spans (w .base) (exponent w) (address (headerOf (c .packet)))) (r .window) .0))
     (λ r.
     let w = row (r .owner) (r .slot) in
-    not-shut (c .windows) shut (r .owner) (r .slot) (omega (arith, r .owner-lt)) (r .slot-lt) (both (inForce (r .owner) w) (eqb (destination w) (c .sender)) (r .window) .0))
+    not-shut (c .windows) shut (r .owner) (r .slot) (omega (arith, r .owner-lt)) (r .slot-lt) (led (r .owner) (c .sender) (isPoisoned (headerOf (c .packet))) w (r .window) .1))
     (passed-by c x e)

@@ -6,7 +6,6 @@ use Prim.Native.Nat.{ℕ, _+_, _*_, _%_, _^_, _≤_}
 use mathlib.Core.Path.{_≡_, refl, sym, ap, _∙_, subst}
 use mathlib.Core.Bool.{Bool, true, false, not, _||_, true≢false}
 use mathlib.Core.List.{List}
-use mathlib.Core.Logic.{⊎-elim}
 use native.Mathlib.Omega.{arith}
 use borrow.Author.Tests.{eqb-true, not-false}
 use lib.Dec.{eqb}
@@ -14,12 +13,11 @@ use lib.ListN.{length, drop, length-drop}
 use lib.Seq.{drop-at}
 use Rattle.header.specs.Pick.{pick}
 use Rattle.header.specs.Field.{field}
-use Rattle.header.specs.Kind.{isRead, isWrite, isCompletion, isCarried, headerBytes}
+use Rattle.header.specs.Kind.{isRead, isWrite, isCompletion, headerBytes}
 use Rattle.header.specs.Words.{headerOf}
-use Rattle.header.specs.Fields.{kind, isPoisoned, dwords, dataBytes, totalBytes, requesterId, address, byteCountField, lowerAddressField}
+use Rattle.header.specs.Fields.{kind, dwords, dataBytes, totalBytes, requesterId, address, byteCountField, lowerAddressField}
 use Rattle.header.specs.Rewrite.{readdressed, renamed}
 use Rattle.header.specs.declared.words.Header.{Header}
-use Rattle.header.proofs.Laws.Join.{neither, one-of}
 use Rattle.header.proofs.Laws.Pick.{either}
 use Rattle.header.proofs.Laws.Words.{Bytes}
 use Rattle.tlp.specs.Form.{requestOf, packetOf, ruleNumber}
@@ -40,11 +38,11 @@ use Rattle.numbers.specs.declared.entries.Found.{Found}
 use Rattle.numbers.specs.declared.entries.Found.the-variants.{Nothing, At}
 use Rattle.switch.specs.declared.answer.Sent.{Sent}
 use Rattle.switch.specs.Answer.{Answer, crossed, answered, dropped}
-use Rattle.switch.specs.Rule.{wrongCall, busId, mappedId, refused, toDestination, throughEntry, throughWindow, requestRule, packetRule, passRule}
+use Rattle.switch.specs.Rule.{wrongCall, busId, mappedId, refused, toDestination, throughEntry, isStopped, throughMark, throughWindow, requestRule, packetRule, passRule}
 use Rattle.switch.specs.After.{dataOf}
 use Rattle.demands.specs.Call.{Call, answerOf, cameOut, isRequest, Lent}
 use Rattle.demands.specs.Flush.{Flush, FlushWellFormed, FlushNever3, RefusedReadsAnswered, FlushAnswered, FlushCameOut, FlushCrosses}
-use Rattle.demands.proofs.Laws.CameOut.{two-kinds, crossed-request, request-form, came-out-whole}
+use Rattle.demands.proofs.Laws.CameOut.{two-kinds, request-kind, crossed-request, request-form, came-out-whole}
 use Rattle.demands.proofs.Laws.Crossing.{Through, request-crossed}
 use Rattle.demands.proofs.Laws.Forms.{form-number}
 use Rattle.demands.proofs.Laws.Listed.{Answers, Listed, listed}
@@ -81,13 +79,17 @@ module _ (reading : Bool) (p bus : ℕ) (h : Header) (windows numbers : List ℕ
   entry-late Nothing t = refused-late 7 (omega arith)
   entry-late (At i) t = either (Late reading) (not (isActive numbers (t .destination))) (λ _. refused-late 8 (omega arith)) (λ _. tt)
 
+  mark-late : (t : Translation) → Late reading (throughMark reading p bus h t numbers)
+  unfolding throughMark
+  mark-late t = either (Late reading) (isStopped h (t .marked)) (λ _. refused-late 5 (omega arith)) (λ _. entry-late (entryOf numbers p (requesterId h)) t)
+
   window-late : (l : Look) → Late reading (throughWindow l reading p bus h numbers)
   window-late Shut = refused-late 6 (omega arith)
-  window-late (Open t) = entry-late (entryOf numbers p (requesterId h)) t
+  window-late (Open t) = mark-late t
 
   request-late : Late reading (requestRule reading p bus h windows numbers)
   unfolding requestRule
-  request-late = either (Late reading) (isPoisoned h) (λ _. refused-late 5 (omega arith)) (λ _. window-late (lookUp windows p (address h)))
+  request-late = window-late (lookUp windows p (address h))
 
 -- a packet's own refusals come after 1 and 2
 module _ (c : Call) (n : ℕ) (a : 3 ≤ n) where
@@ -161,12 +163,6 @@ one-data-word s w one write =
     let some : dataBytes h ≡ 4 * dwords h = ap (λ (t : Bool). pick (t || eqb (kind h) 0x4A) (4 * dwords h) 0) write in
     let four : dataBytes h ≡ 4 = some ∙ ap (λ (n : ℕ). 4 * n) one in
     length-drop (headerBytes (kind h)) s ∙ (omega (arith, size, four))
-
--- a well-formed request is of a request's kind
-request-kind : (n : ℕ) (h : Header) → WellFormed n h → (isRead (kind h) || isWrite (kind h)) ≡ true
-request-kind n h w =
-    let carried : isCarried (kind h) ≡ true = not-false (isCarried (kind h)) (neither _ _ (neither _ _ (w .carried) .0) .0) in
-    ⊎-elim (λ e. e) (λ e. absurd (true≢false (sym e ∙ w .request))) (one-of (isRead (kind h) || isWrite (kind h)) (isCompletion (kind h)) carried)
 
 -- a request that was moved, renamed and written with its data is of a request's kind still
 moved-kind : (p : ℕ) (s windows numbers : List ℕ) (x : Sent) → Bytes s → Words64 windows → WellFormed (length s) (headerOf s) → p ≤ 15

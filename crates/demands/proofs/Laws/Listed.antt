@@ -10,12 +10,12 @@ use lib.Dec.{eqb}
 use lib.ListN.{length}
 use Rattle.header.specs.Kind.{isRead}
 use Rattle.header.specs.Words.{headerOf}
-use Rattle.header.specs.Fields.{kind, isPoisoned, requesterId, address, completionRequesterId}
+use Rattle.header.specs.Fields.{kind, requesterId, address, completionRequesterId}
 use Rattle.header.proofs.Laws.Pick.{either}
 use Rattle.tlp.specs.Form.{ruleNumber}
 use Rattle.tlp.specs.Count.{answerTo}
 use Rattle.tlp.specs.declared.form.Packet.{Packet}
-use Rattle.windows.specs.Look.{lookUp}
+use Rattle.windows.specs.Look.{lookUp, reaches}
 use Rattle.windows.specs.declared.look.Translation.{Translation}
 use Rattle.windows.specs.declared.look.Look.{Look}
 use Rattle.windows.specs.declared.look.Look.the-variants.{Shut, Open}
@@ -27,7 +27,7 @@ use Rattle.numbers.specs.declared.entries.Found.{Found}
 use Rattle.numbers.specs.declared.entries.Found.the-variants.{Nothing, At}
 use Rattle.switch.specs.declared.answer.Sent.{Sent}
 use Rattle.switch.specs.Answer.{Answer, crossed, answered, dropped, sentOf}
-use Rattle.switch.specs.Rule.{wrongCall, busId, mappedId, refused, toDestination, throughEntry, throughWindow, requestRule, isPassable, toOwner, throughHeld, completionRule, packetRule, passRule}
+use Rattle.switch.specs.Rule.{wrongCall, busId, mappedId, refused, toDestination, throughEntry, isStopped, throughMark, throughWindow, requestRule, isPassable, toOwner, throughHeld, completionRule, packetRule, passRule}
 use Rattle.switch.proofs.Laws.Call.{RightCall, right-call}
 use Rattle.demands.specs.Call.{Call, answerOf}
 use Rattle.demands.proofs.Laws.Forms.{form-number, each-form}
@@ -79,39 +79,45 @@ module _ (c : Call) (right : Right c) (active : isActive (c .numbers) (c .sender
   entry-listed Nothing t = refused-listed 7 (omega arith) (omega arith)
   entry-listed (At i) t = destination-listed t i
 
+  -- 5
+  mark-listed : (t : Translation) → Listed c (throughMark reading (c .sender) (busOf (c .numbers) (c .sender)) (headerOf (c .packet)) t (c .numbers))
+  unfolding throughMark
+  mark-listed t =
+      let h = headerOf (c .packet) in
+      either (Listed c) (isStopped h (t .marked)) (λ _. refused-listed 5 (omega arith) (omega arith)) (λ _. entry-listed (entryOf (c .numbers) (c .sender) (requesterId h)) t)
+
   -- 6
   window-listed : (l : Look) → Listed c (throughWindow l reading (c .sender) (busOf (c .numbers) (c .sender)) (headerOf (c .packet)) (c .numbers))
   window-listed Shut = refused-listed 6 (omega arith) (omega arith)
-  window-listed (Open t) = entry-listed (entryOf (c .numbers) (c .sender) (requesterId (headerOf (c .packet)))) t
+  window-listed (Open t) = mark-listed t
 
-  -- 5
+  -- any of them
   request-listed : Listed c (requestRule reading (c .sender) (busOf (c .numbers) (c .sender)) (headerOf (c .packet)) (c .windows) (c .numbers))
   unfolding requestRule
-  request-listed =
-      let h = headerOf (c .packet) in
-      either (Listed c) (isPoisoned h) (λ _. refused-listed 5 (omega arith) (omega arith)) (λ _. window-listed (lookUp (c .windows) (c .sender) (address h)))
+  request-listed = window-listed (lookUp (c .windows) (c .sender) (address (headerOf (c .packet))))
 
 -- a completion
 module _ (c : Call) (right : Right c) where
-  -- 9, of the owner
+  -- 9 and 5, of the owner
   owner-listed : (id owner : ℕ) → Listed c (toOwner id owner (c .sender) (headerOf (c .packet)) (c .windows) (c .numbers))
   unfolding toOwner
-  owner-listed id owner = either (Listed c) (isPassable owner (c .sender) (c .windows) (c .numbers)) (λ _. tt) (λ _. later c right 9 (omega arith) (omega arith))
+  owner-listed id owner =
+      either (Listed c) (not (isPassable owner (c .sender) (c .windows) (c .numbers))) (λ _. later c right 9 (omega arith) (omega arith))
+      (λ _. either (Listed c) (isStopped (headerOf (c .packet)) (reaches (c .windows) owner (c .sender) true)) (λ _. later c right 5 (omega arith) (omega arith)) (λ _. tt))
 
   -- 9, of the entry
   held-listed : (e : Entry) (i : ℕ) → Listed c (throughHeld e i (c .sender) (headerOf (c .packet)) (c .windows) (c .numbers))
   held-listed Free i = later c right 9 (omega arith) (omega arith)
   held-listed (Held id) i = owner-listed id (i / 4)
 
-  -- 5, and 9 of the number
+  -- 9, of the number
   completion-listed : (bus : ℕ) → Listed c (completionRule (c .sender) bus (headerOf (c .packet)) (c .windows) (c .numbers))
   unfolding completionRule
   completion-listed bus =
       let h = headerOf (c .packet) in
       let i = completionRequesterId h % 64 in
-      either (Listed c) (isPoisoned h) (λ _. later c right 5 (omega arith) (omega arith))
-      (λ _. either (Listed c) (not (eqb (completionRequesterId h) (mappedId bus i))) (λ _. later c right 9 (omega arith) (omega arith))
-      (λ _. held-listed (entryAt (c .numbers) i) i))
+      either (Listed c) (not (eqb (completionRequesterId h) (mappedId bus i))) (λ _. later c right 9 (omega arith) (omega arith))
+      (λ _. held-listed (entryAt (c .numbers) i) i)
 
 -- every call's answer
 pub listed : (c : Call) → Listed c (answerOf c)

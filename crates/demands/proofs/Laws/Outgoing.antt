@@ -12,7 +12,7 @@ use lib.Dec.{eqb}
 use lib.ListN.{getD}
 use Rattle.header.specs.Pick.{pick}
 use Rattle.header.specs.Field.{field}
-use Rattle.header.specs.Fields.{dwords, requesterId, tag, address}
+use Rattle.header.specs.Fields.{isPoisoned, dwords, requesterId, tag, address}
 use Rattle.header.specs.Rewrite.{readdressed}
 use Rattle.header.specs.declared.words.Header.{Header}
 use Rattle.header.proofs.Laws.Rewrite.{renamed-requester, renamed-keeps, readdressed-keeps-low, readdressed-word-1}
@@ -84,6 +84,12 @@ module _ (p : ℕ) (h : Header) (windows numbers : List ℕ) (x : Sent) (k : p �
   -- so is the tag
   pub sent-tag : tag (x .header) ≡ tag h
   sent-tag = sent-keeps 8 8 (omega arith)
+
+  -- and the mark, in word 0
+  pub sent-marked : isPoisoned (x .header) ≡ isPoisoned h
+  sent-marked =
+      ap (λ (y : Sent). isPoisoned (y .header)) (t .sent)
+      ∙ ap (λ (k : ℕ). eqb k 1) (readdressed-keeps-low h (t .translation .address) translation-lt 14 1 (omega arith))
 
   -- and the Length, in word 0
   pub sent-dwords : dwords (x .header) ≡ dwords h

@@ -1,11 +1,12 @@
 -- Demand 3, the return: where a request passed and came out in another partition, a completion from there that bears the number and
 -- the tag that it came out with comes back to its sender, under the sender's own number and tag; in any later state in which the call
--- is right, the entry and both buses are as they were, and the sender has some row in force to there.
+-- is right, the entry and both buses are as they were, and the sender has some row in force to there, with the bit if the completion is
+-- marked.
 -- The number names bus and index, the index the entry and its owner, and none of the completion's tests fails; so it crosses, comes
 -- out whole, and its bytes are those of a returned completion. Assumes nothing.
 use Prim.Native.Nat.{ℕ, zero, suc, _+_, _*_, _/_, _%_, _^_, _≤_, _<_}
 use mathlib.Core.Path.{_≡_, refl, sym, ap, _∙_, subst}
-use mathlib.Core.Bool.{Bool, true, false, not, true≢false}
+use mathlib.Core.Bool.{Bool, true, false, not, _&&_, true≢false}
 use mathlib.Core.List.{List}
 use native.Mathlib.Omega.{arith}
 use borrow.Author.Tests.{eq-eqb, ne-eqb, lt-ltb, eqb-true, ltb-false, not-false}
@@ -14,7 +15,7 @@ use lib.ListN.{length}
 use Rattle.header.specs.Words.{headerOf}
 use Rattle.header.specs.Fields.{totalBytes, isPoisoned, requesterId, address, completionRequesterId, completionTag}
 use Rattle.header.specs.Rewrite.{returned}
-use Rattle.header.proofs.Laws.Pick.{hit, pass}
+use Rattle.header.proofs.Laws.Pick.{pass}
 use Rattle.header.proofs.Laws.Join.{both}
 use Rattle.header.proofs.Laws.Field.{field-lt}
 use Rattle.header.proofs.Laws.Rewrite.{returned-requester, returned-tag}
@@ -26,7 +27,7 @@ use Rattle.windows.specs.Row.{rowOf, exponent, inForce, spans, leads}
 use Rattle.windows.specs.Look.{lowestSlot, lookUp, slotLeads, leadingSlot, reaches}
 use Rattle.windows.specs.declared.look.Translation.{Translation}
 use Rattle.windows.specs.declared.look.Look.the-variants.{Open}
-use Rattle.windows.proofs.Laws.Row.{force}
+use Rattle.windows.proofs.Laws.Row.{force, leads-unmarked}
 use Rattle.windows.proofs.Laws.Look.{opened}
 use Rattle.numbers.specs.Entries.{lookAt, entryAt}
 use Rattle.numbers.specs.Buses.{busOf, isActive}
@@ -34,7 +35,7 @@ use Rattle.numbers.specs.declared.entries.Entry.{Entry}
 use Rattle.numbers.specs.declared.entries.Entry.the-variants.{Held}
 use Rattle.switch.specs.declared.answer.Sent.{Sent}
 use Rattle.switch.specs.Answer.{Answer, crossed, sentOf}
-use Rattle.switch.specs.Rule.{wrongCall, busId, mappedId, isPassable, toOwner, throughHeld, completionRule, packetRule, passRule}
+use Rattle.switch.specs.Rule.{wrongCall, busId, mappedId, isStopped, isPassable, toOwner, throughHeld, completionRule, packetRule, passRule}
 use Rattle.switch.specs.After.{logsAfter}
 use Rattle.demands.specs.Call.{Call, answerOf, Passed}
 use Rattle.demands.specs.Demand3.{Completes, Provided, ComesBack, Return}
@@ -52,18 +53,18 @@ leads-away windows p a t e q =
     force p w (both (inForce p w) (spans (w .base) (exponent w) a) (o .1) .0) .other (sym (ap (λ (u : Translation). u .destination) (o .2)) ∙ q)
 
 -- what can be returned to
-pub passable : (owner p : ℕ) (windows numbers : List ℕ) → (owner ≡ p → ⊥) → isActive numbers owner ≡ true → reaches windows owner p ≡ true
+pub passable : (owner p : ℕ) (windows numbers : List ℕ) → (owner ≡ p → ⊥) → isActive numbers owner ≡ true → reaches windows owner p false ≡ true
     → isPassable owner p windows numbers ≡ true
 passable owner p windows numbers d a r = rw (ne-eqb owner p d, a, r) refl
 
 -- a completion that passes every test crosses
 pub completion-crosses : (q : ℕ) (c windows numbers : List ℕ) (logs out i id owner : ℕ) → wrongCall q (length windows) (length numbers) logs out ≡ false
-    → isActive numbers q ≡ true → IsCompletion c → isPoisoned (headerOf c) ≡ false
+    → isActive numbers q ≡ true → IsCompletion c
     → completionRequesterId (headerOf c) ≡ mappedId (busOf numbers q) i → i < 64 → entryAt numbers i ≡ Held id → i / 4 ≡ owner
-    → isPassable owner q windows numbers ≡ true
+    → isPassable owner q windows numbers ≡ true → isStopped (headerOf c) (reaches windows owner q true) ≡ false
     → passRule q c windows numbers logs out ≡ crossed (sentOf (returned (headerOf c) id (busId (busOf numbers owner))) owner)
 unfolding passRule completionRule toOwner
-completion-crosses q c windows numbers logs out i id owner call active k whole number l held own ok =
+completion-crosses q c windows numbers logs out i id owner call active k number l held own ok free =
     let h = headerOf c in
     let n = completionRequesterId h in
     let rule : Packet → Answer = λ x. packetRule x q (busOf numbers q) windows numbers in
@@ -72,12 +73,11 @@ completion-crosses q c windows numbers logs out i id owner call active k whole n
     sym
     (pass (wrongCall q (length windows) (length numbers) logs out) _ _ call
     (pass (not (isActive numbers q)) _ _ (ap not active)
-    (pass (isPoisoned h) _ _ whole
     (pass (not (eqb n (mappedId (busOf numbers q) (n % 64)))) _ _ (ap not (eq-eqb n (mappedId (busOf numbers q) (n % 64)) mapped))
-    (hit (isPassable owner q windows numbers) _ _ ok refl
+    (pass (not (isPassable owner q windows numbers)) _ _ (ap not ok) (pass (isStopped h (reaches windows owner q true)) _ _ free refl)
     ∙ ap (λ (o : ℕ). toOwner id o q h windows numbers) (sym own)
     ∙ ap (λ (e : Entry). throughHeld e i q h windows numbers) (sym held)
-    ∙ ap (λ (m : ℕ). throughHeld (entryAt numbers m) m q h windows numbers) (sym here)))
+    ∙ ap (λ (m : ℕ). throughHeld (entryAt numbers m) m q h windows numbers) (sym here))
     ∙ ap rule (sym k))))
 
 -- the index of a slot names its partition
@@ -95,9 +95,14 @@ stops test s (suc n) i l h e = by-test (test s) refl (λ k. stops test (suc s) n
         let other : s ≡ i → ⊥ = λ z. true≢false (sym e ∙ ap test (sym z) ∙ q) in
         omega (arith, missed test s n q, r (omega arith))
 
--- who has a row in force to another reaches it
-reaches-by : (windows : List ℕ) (p q s : ℕ) → s < 16 → leads p q (rowOf windows p s) ≡ true → reaches windows p q ≡ true
-reaches-by windows p q s l e = lt-ltb (leadingSlot windows p q) 16 (stops (slotLeads windows p q) 0 16 s (omega arith) (omega arith) e)
+-- who has a row in force to another, for packets so marked, reaches it with them
+reaches-by : (windows : List ℕ) (p q : ℕ) (marked : Bool) (s : ℕ) → s < 16 → leads p q marked (rowOf windows p s) ≡ true → reaches windows p q marked ≡ true
+reaches-by windows p q marked s l e = lt-ltb (leadingSlot windows p q marked) 16 (stops (slotLeads windows p q marked) 0 16 s (omega arith) (omega arith) e)
+
+-- and these are not stopped
+not-stopped : (windows : List ℕ) (p q : ℕ) (marked : Bool) → reaches windows p q marked ≡ true → (marked && not (reaches windows p q true)) ≡ false
+not-stopped windows p q true r = ap not r
+not-stopped windows p q false r = refl
 
 module _ (a c : Call) (x : Sent) (p : Passed a x) (k : Completes a x c) (v : Provided a x c) where
   -- the completion is sent from where the request went
@@ -128,13 +133,24 @@ module _ (a c : Call) (x : Sent) (p : Passed a x) (k : Completes a x c) (v : Pro
   active-there : isActive (c .numbers) (c .sender) ≡ true
   active-there = ap (λ (b : ℕ). ltb b 256) same-bus ∙ request a x p .through .reached
 
+  -- the row leads there
+  window-there : leads (a .sender) (c .sender) (isPoisoned (headerOf (c .packet))) (rowOf (c .windows) (a .sender) (v .slot)) ≡ true
+  window-there = ap (λ (q : ℕ). leads (a .sender) q (isPoisoned (headerOf (c .packet))) (rowOf (c .windows) (a .sender) (v .slot))) (k .from-there) ∙ v .window
+
   -- they differ, and the one reaches the other
   returnable : isPassable (a .sender) (c .sender) (c .windows) (c .numbers) ≡ true
   returnable =
       let t = request a x p .through in
       passable (a .sender) (c .sender) (c .windows) (c .numbers)
       (λ e. leads-away (a .windows) (a .sender) (address (headerOf (a .packet))) (t .translation) (t .looked) (sym there ∙ sym e)) active
-      (ap (reaches (c .windows) (a .sender)) (k .from-there) ∙ reaches-by (c .windows) (a .sender) (x .partition) (v .slot) (v .slot-lt) (v .window))
+      (reaches-by (c .windows) (a .sender) (c .sender) false (v .slot) (v .slot-lt)
+      (leads-unmarked (a .sender) (c .sender) (isPoisoned (headerOf (c .packet))) (rowOf (c .windows) (a .sender) (v .slot)) window-there))
+
+  -- and if the completion is marked, some row has the bit
+  free : isStopped (headerOf (c .packet)) (reaches (c .windows) (a .sender) (c .sender) true) ≡ false
+  free =
+      let marked = isPoisoned (headerOf (c .packet)) in
+      not-stopped (c .windows) (a .sender) (c .sender) marked (reaches-by (c .windows) (a .sender) (c .sender) marked (v .slot) (v .slot-lt) window-there)
 
   -- the completion is one
   form : IsCompletion (c .packet)
@@ -149,9 +165,9 @@ module _ (a c : Call) (x : Sent) (p : Passed a x) (k : Completes a x c) (v : Pro
   crosses =
       let t = request a x p .through in
       completion-crosses (c .sender) (c .packet) (c .windows) (c .numbers) (length (c .logs)) (length (c .out)) (t .index)
-      (requesterId (headerOf (a .packet))) (a .sender) (k .right-call) active-there form (k .unpoisoned) number
+      (requesterId (headerOf (a .packet))) (a .sender) (k .right-call) active-there form number
       (index-lt (a .sender) (headerOf (a .packet)) (a .windows) (a .numbers) x (request a x p .call .partition) (p .lent .words) t) held
-      (owner-of (a .sender) (t .slot) (t .index) (t .slot-lt) (t .index-is)) returnable
+      (owner-of (a .sender) (t .slot) (t .index) (t .slot-lt) (t .index-is)) returnable free
 
   -- and comes back
   comes-back : ComesBack a c

@@ -3,32 +3,33 @@
 -- The crossing's own tests name the window and the entry; the log's laws say what a refusal leaves. Assumes nothing.
 use Prim.Native.Nat.{ℕ, _/_, _%_, _≤_}
 use mathlib.Core.Path.{_≡_, refl, sym, ap, _∙_}
-use mathlib.Core.Bool.{not, _&&_}
+use mathlib.Core.Bool.{Bool, true, false, not, _&&_, _||_}
 use mathlib.Core.Logic.{_⊎_, inl, inr}
 use mathlib.Core.List.{List}
 use native.Mathlib.Omega.{arith}
-use borrow.Author.Tests.{ltb-true}
+use borrow.Author.Tests.{ltb-true, not-false}
 use lib.Dec.{eqb}
 use lib.ListN.{length}
 use lib.Bits.{bitOr}
 use Rattle.header.specs.Field.{field}
 use Rattle.header.specs.Words.{headerOf}
-use Rattle.header.specs.Fields.{address, completionRequesterId}
+use Rattle.header.specs.Fields.{isPoisoned, address, completionRequesterId}
 use Rattle.header.specs.Rewrite.{readdressed, renamed}
 use Rattle.header.proofs.Laws.Join.{both}
 use Rattle.tables.proofs.Laws.Scan.{holds}
 use Rattle.tlp.specs.Form.{packetOf, ruleNumber}
 use Rattle.tlp.specs.declared.form.Packet.{Packet}
-use Rattle.windows.specs.Look.{lowestSlot, slotLeads, leadingSlot, reaches}
+use Rattle.windows.specs.Row.{rowOf, passesMarked}
+use Rattle.windows.specs.Look.{lowestSlot, translated, slotLeads, leadingSlot, reaches}
 use Rattle.windows.specs.declared.look.Translation.{Translation}
-use Rattle.windows.proofs.Laws.Look.{opened}
+use Rattle.windows.proofs.Laws.Look.{lower-cover-not, opened}
 use Rattle.numbers.specs.Entries.{entryIndex, entryAt}
 use Rattle.numbers.specs.Buses.{busOf, isActive}
 use Rattle.logs.specs.Logs.{statusOf, bitNumber, bitMask}
 use Rattle.switch.specs.declared.answer.Sent.{Sent}
 use Rattle.switch.specs.declared.after.Logged.{Logged}
 use Rattle.switch.specs.Answer.{Answer, crossed, answered, dropped, sentOf}
-use Rattle.switch.specs.Rule.{mappedId, packetRule}
+use Rattle.switch.specs.Rule.{mappedId, isStopped, packetRule}
 use Rattle.switch.specs.After.{logBit, logged, logsAfter}
 use Rattle.switch.proofs.Laws.Frame.{logs-elsewhere}
 use Rattle.demands.specs.Call.{Call, answerOf, logsOf}
@@ -38,20 +39,35 @@ use Rattle.demands.proofs.Laws.Forms.{each-form}
 use Rattle.demands.proofs.Laws.Listed.{Right, Listed, listed}
 use Rattle.demands.proofs.Laws.Logged.{set-bit, status-recorded, has-bit, no-bit}
 
+-- who is not stopped is admitted: unmarked, or where the bit is
+admitted : (marked bit : Bool) → (marked && not bit) ≡ false → (not marked || bit) ≡ true
+admitted true bit e = not-false bit e
+admitted false bit e = refl
+
+-- and who reaches a partition and is not stopped on the way reaches it so marked as it is
+reached : (windows : List ℕ) (p q : ℕ) (marked : Bool) → reaches windows p q false ≡ true → (marked && not (reaches windows p q true)) ≡ false
+    → reaches windows p q marked ≡ true
+reached windows p q true r e = not-false (reaches windows p q true) e
+reached windows p q false r e = r
+
 -- a request that crossed passed by the window that the look found and the entry that was found
 through-passed : (c : Call) (x : Sent) → Through (c .sender) (headerOf (c .packet)) (c .windows) (c .numbers) x → RequestPassed c x
 through-passed c x t =
     let h = headerOf (c .packet) in
     let o = opened (c .windows) (c .sender) (address h) (t .translation) (t .looked) in
+    let w = rowOf (c .windows) (c .sender) (lowestSlot (c .windows) (c .sender) (address h)) in
     let goes : Translation → ℕ → Sent = λ u i. sentOf (renamed (readdressed h (u .address)) (mappedId (busOf (c .numbers) (u .destination)) i)) (u .destination) in
     record {
       slot = lowestSlot (c .windows) (c .sender) (address h);
       slot-lt = o .0;
       window = o .1;
+      lowest = lower-cover-not (c .windows) (c .sender) (address h);
+      admitted =
+          admitted (isPoisoned h) (passesMarked w) (ap (λ (u : Translation). isStopped h (u .marked)) (sym (o .2)) ∙ t .admitted);
       place = t .slot;
       place-lt = t .slot-lt;
       filled = ap (entryAt (c .numbers)) (sym (t .index-is)) ∙ t .held;
-      sent = t .sent ∙ ap (λ (u : Translation). goes u (t .index)) (o .2) ∙ ap (goes _) (t .index-is);
+      sent = t .sent ∙ ap (λ (u : Translation). goes u (t .index)) (o .2) ∙ ap (goes (translated w (address h))) (t .index-is);
     }
 
 -- a request that crossed
@@ -66,7 +82,9 @@ completion-passed c x r e =
     let i = completionRequesterId (headerOf (c .packet)) % 64 in
     let own = i / 4 in
     let here : i ≡ entryIndex own (i % 4) = omega arith in
-    let l = ltb-true (leadingSlot (c .windows) own (c .sender)) 16 (both (not (eqb own (c .sender)) && isActive (c .numbers) own) (reaches (c .windows) own (c .sender)) (f .passable) .1) in
+    let marked = isPoisoned (headerOf (c .packet)) in
+    let way = both (not (eqb own (c .sender)) && isActive (c .numbers) own) (reaches (c .windows) own (c .sender) false) (f .passable) .1 in
+    let l = ltb-true (leadingSlot (c .windows) own (c .sender) marked) 16 (reached (c .windows) own (c .sender) marked way (f .admitted)) in
     record {
       owner = own;
       owner-lt = omega arith;
@@ -75,9 +93,9 @@ completion-passed c x r e =
       number = f .number ∙ ap (mappedId (busOf (c .numbers) (c .sender))) here;
       id = f .id;
       filled = ap (entryAt (c .numbers)) (sym here) ∙ f .held;
-      slot = leadingSlot (c .windows) own (c .sender);
+      slot = leadingSlot (c .windows) own (c .sender) marked;
       slot-lt = l;
-      window = holds (slotLeads (c .windows) own (c .sender)) 0 16 (omega (arith, l));
+      window = holds (slotLeads (c .windows) own (c .sender) marked) 0 16 (omega (arith, l));
       sent = f .sent;
     }
 

@@ -23,7 +23,7 @@ use Rattle.numbers.specs.Entries.{lookAt}
 use Rattle.numbers.specs.Buses.{busOf, isActive}
 use Rattle.logs.specs.Logs.{noted, recorded}
 use Rattle.switch.specs.Answer.{Answer, crossed, answered, dropped}
-use Rattle.switch.specs.Rule.{refused, toDestination, requestRule, toOwner, completionRule, packetRule, passRule}
+use Rattle.switch.specs.Rule.{refused, toDestination, throughMark, requestRule, toOwner, completionRule, packetRule, passRule}
 use Rattle.switch.specs.After.{dataOf, outAfter, logBit, logsAfter}
 use Rattle.sheet.specs.Tables.{windows, numbers, logs}
 use Rattle.sheet.specs.Cases.{Case, logsWith, cases}
@@ -48,7 +48,7 @@ expected c = (c .answer, c .written, logsWith (c .sender) (c .row))
 
 -- the table
 pub sheet : map run cases ≡ map expected cases
-unfolding pick wordAt readdressed requestForm formOf byteCountOf headerList first aligned inForce spans lookUp lookAt noted recorded logBit refused toDestination requestRule toOwner completionRule passRule windows numbers logs
+unfolding pick wordAt readdressed requestForm formOf byteCountOf headerList first aligned inForce spans lookUp lookAt noted recorded logBit refused toDestination throughMark requestRule toOwner completionRule passRule windows numbers logs
 sheet = refl
 
 -- L. Byte counts: Length 1 enables 0110; Length 3 first 1000 last 0001; Length 1,024 all enabled, whose field is 0

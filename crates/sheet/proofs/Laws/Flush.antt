@@ -16,7 +16,7 @@ use Rattle.windows.specs.Look.{lookUp}
 use Rattle.numbers.specs.Entries.{lookAt}
 use Rattle.switch.specs.declared.answer.Sent.{Sent}
 use Rattle.switch.specs.Answer.{answered}
-use Rattle.switch.specs.Rule.{refused, toDestination, requestRule, passRule}
+use Rattle.switch.specs.Rule.{refused, toDestination, throughMark, requestRule, passRule}
 use Rattle.demands.specs.Flush.{Flush, FlushCameOut}
 use Rattle.demands.proofs.Laws.Flush.{flush-crosses}
 use Rattle.sheet.specs.Tables.{windows, numbers, logs}
@@ -35,7 +35,7 @@ m-is-a-flush = record { request = refl; one-dword = refl; none-first = refl; non
 
 -- that crosses, and comes out as one
 pub m-comes-out : (out : List ℕ) → 4112 ≤ length out → FlushCameOut (callOf caseM out) sentM
-unfolding pick wordAt readdressed requestForm formOf first aligned inForce spans lookUp lookAt toDestination requestRule passRule windows numbers logs
+unfolding pick wordAt readdressed requestForm formOf first aligned inForce spans lookUp lookAt toDestination throughMark requestRule passRule windows numbers logs
 m-comes-out out h =
     flush-crosses (callOf caseM out) sentM (record { bytes = below (2 ^ 8) (caseM .packet) refl (omega arith); words = windows-fit }) m-is-a-flush
     (long-enough 1 (caseM .packet) windows numbers 96 (length out) h)

@@ -2,26 +2,27 @@
 -- enough, and B comes back to 1 under A's own requester ID and tag. Each premise is computed on the sheet's tables, but for the number
 -- and the tag in Out: what came out whole has the words of A's answer. Assumes nothing.
 use Prim.Native.Nat.{ℕ, zero, suc, _≤_, _<_, _^_}
-use mathlib.Core.Path.{_≡_, refl, sym, ap}
-use mathlib.Core.Bool.{Bool, true, _&&_}
+use mathlib.Core.Path.{_≡_, refl, sym, ap, _∙_}
+use mathlib.Core.Bool.{Bool, true, false, _&&_}
 use mathlib.Core.List.{List, [], _∷_}
 use native.Mathlib.Omega.{arith}
 use borrow.Author.Tests.{ltb-true, le-ltb}
 use lib.Dec.{ltb}
 use lib.ListN.{length, getD}
 use Rattle.header.specs.Pick.{pick}
-use Rattle.header.specs.Words.{wordAt}
-use Rattle.header.specs.Fields.{requesterId, tag}
+use Rattle.header.specs.Kind.{isCompletion}
+use Rattle.header.specs.Words.{wordAt, headerOf}
+use Rattle.header.specs.Fields.{kind, requesterId, tag, completionRequesterId, completionTag}
 use Rattle.header.specs.Rewrite.{readdressed}
 use Rattle.header.proofs.Laws.Join.{both}
-use Rattle.tlp.specs.Form.{requestForm, formOf}
+use Rattle.tlp.specs.Form.{requestForm, formOf, packetOf, packetNumber}
 use Rattle.tables.specs.Scan.{first}
 use Rattle.windows.specs.Row.{aligned, inForce, spans}
 use Rattle.windows.specs.Look.{lookUp}
 use Rattle.numbers.specs.Entries.{lookAt}
 use Rattle.switch.specs.declared.answer.Sent.{Sent}
-use Rattle.switch.specs.Rule.{toDestination, requestRule, passRule}
-use Rattle.demands.specs.Call.{Call, Passed}
+use Rattle.switch.specs.Rule.{wrongCall, toDestination, throughMark, requestRule, passRule}
+use Rattle.demands.specs.Call.{Call, Lent, Passed}
 use Rattle.demands.specs.Demand3.{Completes, ComesBack}
 use Rattle.demands.proofs.Laws.CameOut.{came-out-whole}
 use Rattle.demands.proofs.Laws.Return.{returns}
@@ -50,12 +51,12 @@ abbrev pub callOf : Case → List ℕ → Call
 callOf c out = record { sender = c .sender; packet = c .packet; windows = windows; numbers = numbers; logs = logs; out = out }
 
 -- what A comes out with
-abbrev sentA : Sent
+abbrev pub sentA : Sent
 sentA = four (words 0x20000001 0x0146050F 0x00000001 0x40000010) 0 16
 
 -- A passes
-a-passed : (out : List ℕ) → 4112 ≤ length out → Passed (callOf caseA out) sentA
-unfolding pick wordAt readdressed requestForm formOf first aligned inForce spans lookUp lookAt toDestination requestRule passRule windows numbers logs
+pub a-passed : (out : List ℕ) → 4112 ≤ length out → Passed (callOf caseA out) sentA
+unfolding pick wordAt readdressed requestForm formOf first aligned inForce spans lookUp lookAt toDestination throughMark requestRule passRule windows numbers logs
 a-passed out h =
     record {
       lent = record { bytes = below (2 ^ 8) (caseA .packet) refl (omega arith); words = windows-fit };
@@ -63,26 +64,33 @@ a-passed out h =
       went = long-enough 1 (caseA .packet) windows numbers 96 (length out) h;
     }
 
+-- a completion from 0 with A's number and tag completes it, whatever else it holds and whatever is lent
+pub completes-a : (o : List ℕ) → 4112 ≤ length o → (c : Call) → Lent c → c .sender ≡ 0 → isCompletion (kind (headerOf (c .packet))) ≡ true
+    → wrongCall (c .sender) (length (c .windows)) (length (c .numbers)) (length (c .logs)) (length (c .out)) ≡ false → packetNumber (packetOf (c .packet)) ≡ 0
+    → completionRequesterId (headerOf (c .packet)) ≡ 0x0146 → completionTag (headerOf (c .packet)) ≡ 5 → Completes (callOf caseA o) sentA c
+completes-a o g c l from kinds call formed number same-tag =
+    let p = a-passed o g in
+    let e = came-out-whole (callOf caseA o) sentA (p .lent) (p .went) .header-is in
+    record {
+      lent = l;
+      from-there = from;
+      completion = kinds;
+      right-call = call;
+      well-formed = formed;
+      that-number = number ∙ ap requesterId (sym e);
+      that-tag = same-tag ∙ ap tag (sym e);
+    }
+
 -- B completes it
 b-completes : (o out : List ℕ) → 4112 ≤ length o → 4112 ≤ length out → Completes (callOf caseA o) sentA (callOf caseB out)
 unfolding pick wordAt formOf windows numbers logs
 b-completes o out g h =
-    let p = a-passed o g in
-    let e = came-out-whole (callOf caseA o) sentA (p .lent) (p .went) .header-is in
-    record {
-      lent = record { bytes = below (2 ^ 8) (caseB .packet) refl (omega arith); words = windows-fit };
-      from-there = refl;
-      completion = refl;
-      right-call = le-ltb (length out) 4112 h;
-      well-formed = refl;
-      unpoisoned = refl;
-      that-number = ap requesterId (sym e);
-      that-tag = ap tag (sym e);
-    }
+    completes-a o g (callOf caseB out) (record { bytes = below (2 ^ 8) (caseB .packet) refl (omega arith); words = windows-fit }) refl refl
+    (le-ltb (length out) 4112 h) refl refl refl
 
 -- B after A, over any two Outs that are long enough
 pub b-after-a : (o out : List ℕ) → 4112 ≤ length o → 4112 ≤ length out → ComesBack (callOf caseA o) (callOf caseB out)
-unfolding aligned inForce windows
+unfolding wordAt aligned inForce windows
 b-after-a o out g h =
     returns (callOf caseA o) (callOf caseB out) sentA (a-passed o g) (b-completes o out g h)
     (record { entry = refl; own-bus = refl; bus = refl; slot = 0; slot-lt = omega arith; window = refl })

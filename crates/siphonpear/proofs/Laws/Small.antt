@@ -7,7 +7,7 @@ use mathlib.Core.List.{List}
 use native.Mathlib.Omega.{arith}
 use lib.ListN.{length}
 use lib.Dec.{eqb}
-use Rattle.header.specs.Fields.{isPoisoned, requesterId, address, completionRequesterId}
+use Rattle.header.specs.Fields.{requesterId, address, completionRequesterId}
 use Rattle.header.specs.Rewrite.{readdressed, renamed, returned}
 use Rattle.header.specs.declared.words.Header.{Header}
 use Rattle.header.proofs.Laws.Lengths.{total-at-most}
@@ -16,7 +16,7 @@ use Rattle.tlp.specs.Count.{answerTo}
 use Rattle.tlp.specs.Form.{packetOf}
 use Rattle.tlp.specs.declared.form.Packet.{Packet}
 use Rattle.tlp.specs.declared.form.Packet.the-variants.{Read, Write, Completion, Broken}
-use Rattle.windows.specs.Look.{lookUp}
+use Rattle.windows.specs.Look.{lookUp, reaches}
 use Rattle.windows.specs.declared.look.Translation.{Translation}
 use Rattle.windows.specs.declared.look.Look.{Look}
 use Rattle.windows.specs.declared.look.Look.the-variants.{Shut, Open}
@@ -27,7 +27,7 @@ use Rattle.numbers.specs.declared.entries.Entry.the-variants.{Free, Held}
 use Rattle.numbers.specs.declared.entries.Found.{Found}
 use Rattle.numbers.specs.declared.entries.Found.the-variants.{Nothing, At}
 use Rattle.switch.specs.Answer.{Answer}
-use Rattle.switch.specs.Rule.{wrongCall, busId, mappedId, refused, toDestination, throughEntry, throughWindow, requestRule, isPassable, toOwner, throughHeld, completionRule, packetRule, passRule}
+use Rattle.switch.specs.Rule.{wrongCall, busId, mappedId, refused, toDestination, throughEntry, isStopped, throughMark, throughWindow, requestRule, isPassable, toOwner, throughHeld, completionRule, packetRule, passRule}
 use Rattle.siphonpear.specs.Abi.{lengthOf}
 
 abbrev Small : Answer → Type 0
@@ -48,23 +48,30 @@ small-entry : (f : Found) (reading : Bool) (p bus : ℕ) (h : Header) (t : Trans
 small-entry Nothing reading p bus h t numbers = small-refused reading 7 p bus h
 small-entry (At i) reading p bus h t numbers = small-destination reading p bus h t i numbers
 
+small-mark : (reading : Bool) (p bus : ℕ) (h : Header) (t : Translation) (numbers : List ℕ) → Small (throughMark reading p bus h t numbers)
+unfolding throughMark
+small-mark reading p bus h t numbers =
+    either Small (isStopped h (t .marked))
+    (λ _. small-refused reading 5 p bus h)
+    (λ _. small-entry (entryOf numbers p (requesterId h)) reading p bus h t numbers)
+
 small-window : (l : Look) (reading : Bool) (p bus : ℕ) (h : Header) (numbers : List ℕ) → Small (throughWindow l reading p bus h numbers)
 small-window Shut reading p bus h numbers = small-refused reading 6 p bus h
-small-window (Open t) reading p bus h numbers = small-entry (entryOf numbers p (requesterId h)) reading p bus h t numbers
+small-window (Open t) reading p bus h numbers = small-mark reading p bus h t numbers
 
 small-request : (reading : Bool) (p bus : ℕ) (h : Header) (windows numbers : List ℕ) → Small (requestRule reading p bus h windows numbers)
 unfolding requestRule
-small-request reading p bus h windows numbers =
-    either Small (isPoisoned h)
-    (λ _. small-refused reading 5 p bus h)
-    (λ _. small-window (lookUp windows p (address h)) reading p bus h numbers)
+small-request reading p bus h windows numbers = small-window (lookUp windows p (address h)) reading p bus h numbers
 
 small-owner : (id owner p : ℕ) (h : Header) (windows numbers : List ℕ) → Small (toOwner id owner p h windows numbers)
 unfolding toOwner
 small-owner id owner p h windows numbers =
-    either Small (isPassable owner p windows numbers)
-    (λ _. total-at-most (returned h id (busId (busOf numbers owner))))
+    either Small (not (isPassable owner p windows numbers))
     (λ _. omega arith)
+    (λ _.
+    either Small (isStopped h (reaches windows owner p true))
+    (λ _. omega arith)
+    (λ _. total-at-most (returned h id (busId (busOf numbers owner)))))
 
 small-held : (e : Entry) (i p : ℕ) (h : Header) (windows numbers : List ℕ) → Small (throughHeld e i p h windows numbers)
 small-held Free i p h windows numbers = omega arith
@@ -74,12 +81,9 @@ small-completion : (p bus : ℕ) (h : Header) (windows numbers : List ℕ) → S
 unfolding completionRule
 small-completion p bus h windows numbers =
     let i = completionRequesterId h % 64 in
-    either Small (isPoisoned h)
-    (λ _. omega arith)
-    (λ _.
     either Small (not (eqb (completionRequesterId h) (mappedId bus i)))
     (λ _. omega arith)
-    (λ _. small-held (entryAt numbers i) i p h windows numbers))
+    (λ _. small-held (entryAt numbers i) i p h windows numbers)
 
 small-packet : (k : Packet) (p bus : ℕ) (windows numbers : List ℕ) → Small (packetRule k p bus windows numbers)
 small-packet (Read h) p bus windows numbers = small-request true p bus h windows numbers

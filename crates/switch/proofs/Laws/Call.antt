@@ -40,4 +40,4 @@ active-bus numbers p e = let l = ltb-true (busOf numbers p) 256 e in omega arith
 -- the owner of an entry that can be returned to is active
 pub passable-active : (owner p : ℕ) (windows numbers : List ℕ) → isPassable owner p windows numbers ≡ true → isActive numbers owner ≡ true
 passable-active owner p windows numbers e =
-    both (not (eqb owner p)) (isActive numbers owner) (both (not (eqb owner p) && isActive numbers owner) (reaches windows owner p) e .0) .1
+    both (not (eqb owner p)) (isActive numbers owner) (both (not (eqb owner p) && isActive numbers owner) (reaches windows owner p false) e .0) .1

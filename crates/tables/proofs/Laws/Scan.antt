@@ -5,6 +5,8 @@ use mathlib.Core.Path.{_≡_, refl, sym, ap, _∙_}
 use mathlib.Core.Bool.{Bool, true, false}
 use native.Mathlib.Omega.{arith}
 use native.Mathlib.Numerals.{add-one}
+use borrow.Author.Tests.{eqb-true, eqb-false}
+use lib.Dec.{eqb}
 use Rattle.header.proofs.Laws.Pick.{hit, pass, either}
 use Rattle.tables.specs.Scan.{first}
 
@@ -42,6 +44,24 @@ holds test s (suc n) h = by-test (test s) refl (λ k. holds test (suc s) n k)
     by-test false e r =
         let m = missed test s n e in
         ap test m ∙ r (omega (arith, m))
+
+-- a test that fails here and later on fails at every place from here on
+from-here : (test : ℕ → Bool) (s i : ℕ) → test s ≡ false → s ≤ i → (suc s ≤ i → test i ≡ false) → test i ≡ false
+from-here test s i e l r = by-place (eqb s i) refl
+  where
+    by-place : (b : Bool) → eqb s i ≡ b → test i ≡ false
+    by-place true q = ap test (sym (eqb-true s i q)) ∙ e
+    by-place false q = r (omega (arith, eqb-false s i q))
+
+-- at every place before the answer it fails
+pub fails-before : (test : ℕ → Bool) (s n i : ℕ) → s ≤ i → i < first test s n → test i ≡ false
+unfolding first
+fails-before test s zero i l h = absurd (omega arith)
+fails-before test s (suc n) i l h = by-test (test s) refl (λ k m. fails-before test (suc s) n i k m)
+  where
+    by-test : (t : Bool) → test s ≡ t → (suc s ≤ i → i < first test (suc s) n → test i ≡ false) → test i ≡ false
+    by-test true e r = absurd (omega (arith, found test s n e))
+    by-test false e r = from-here test s i e l (λ k. r k (omega (arith, missed test s n e)))
 
 -- ---- one turn of a loop that looks for the first place below n, and is at s
 

@@ -2,6 +2,7 @@
 -- that is written or refused serves both: its three stores keep the length, and none of them is at such a word. Assumes nothing.
 use Prim.Native.Nat.{ℕ, _+_, _≤_, _<_}
 use mathlib.Core.Path.{_≡_, refl, _∙_}
+use mathlib.Core.Bool.{Bool}
 use mathlib.Core.List.{List}
 use mathlib.Core.Logic.{_⊎_, inl, inr}
 use native.Mathlib.Omega.{arith}
@@ -37,13 +38,13 @@ row-elsewhere n p s b t c l i h =
     (λ _. refl)
 
 -- setting a window keeps the length
-pub set-window-length : (p slot base target k q : ℕ) (l : List ℕ) → length (setWindowAfter p slot base target k q l) ≡ length l
-set-window-length p slot base target k q l = row-length (setWindowNumber p slot base target k q l) p slot base target (controlWord k q) l
+pub set-window-length : (p slot base target k q : ℕ) (marked : Bool) (l : List ℕ) → length (setWindowAfter p slot base target k q marked l) ≡ length l
+set-window-length p slot base target k q marked l = row-length (setWindowNumber p slot base target k q l) p slot base target (controlWord k q marked) l
 
 -- and every word outside that row
-pub set-window-elsewhere : (p slot base target k q : ℕ) (l : List ℕ) (i : ℕ) → (i < rowAt p slot) ⊎ (rowAt p slot + 3 ≤ i)
-    → getD (setWindowAfter p slot base target k q l) i 0 ≡ getD l i 0
-set-window-elsewhere p slot base target k q l i h = row-elsewhere (setWindowNumber p slot base target k q l) p slot base target (controlWord k q) l i h
+pub set-window-elsewhere : (p slot base target k q : ℕ) (marked : Bool) (l : List ℕ) (i : ℕ) → (i < rowAt p slot) ⊎ (rowAt p slot + 3 ≤ i)
+    → getD (setWindowAfter p slot base target k q marked l) i 0 ≡ getD l i 0
+set-window-elsewhere p slot base target k q marked l i h = row-elsewhere (setWindowNumber p slot base target k q l) p slot base target (controlWord k q marked) l i h
 
 -- emptying a window keeps the length
 pub empty-window-length : (p slot : ℕ) (l : List ℕ) → length (emptyWindowAfter p slot l) ≡ length l

@@ -1,16 +1,16 @@
 -- What a row in force tells, and what a covered address becomes: it fits 64 bits, and its low twelve bits stay.
 -- Base and target are multiples of 2^k, and the offset is below 2^k. Assumes nothing.
 use Prim.Native.Nat.{ℕ, _+_, _-_, _*_, _/_, _%_, _^_, _≤_, _<_}
-use mathlib.Core.Path.{_≡_, sym, ap, _∙_}
-use mathlib.Core.Bool.{true, not, _&&_}
+use mathlib.Core.Path.{_≡_, refl, sym, ap, _∙_}
+use mathlib.Core.Bool.{Bool, true, false, not, _&&_}
 use native.Mathlib.Omega.{arith}
 use borrow.Author.Tests.{leb-true, ltb-true, eqb-true, eqb-false, not-true}
 use lib.Dec.{eqb, ltb, leb}
 use lib.Pow.{shl-exact, pow-add, split, shr-lt, mod-mod-pow}
 use lib.Arith.{digits-lt}
 use native.Mathlib.Nat.{one-mul, zero-mod}
-use Rattle.header.proofs.Laws.Join.{both}
-use Rattle.windows.specs.Row.{exponent, destination, isEnabled, spareZero, isSized, isPlain, aligned, inForce, spans, covers}
+use Rattle.header.proofs.Laws.Join.{both, and-yes}
+use Rattle.windows.specs.Row.{exponent, destination, isEnabled, spareZero, isSized, isPlain, aligned, inForce, spans, covers, admits, leads}
 use Rattle.windows.specs.declared.row.Window.{Window}
 
 -- a size that is one
@@ -40,6 +40,17 @@ force p w e =
       target = eqb-true (w .target % 2 ^ exponent w) 0 (f .1);
       other = eqb-false (destination w) p (not-true (eqb (destination w) p) (d .1));
     }
+
+-- what a row that leads somewhere tells
+pub led : (p q : ℕ) (marked : Bool) (w : Window) → leads p q marked w ≡ true → ((inForce p w && eqb (destination w) q) ≡ true) × (inForce p w ≡ true) × (admits marked w ≡ true)
+led p q marked w e =
+    let way = inForce p w && eqb (destination w) q in
+    let r = both way (admits marked w) e in
+    (r .0, both (inForce p w) (eqb (destination w) q) (r .0) .0, r .1)
+
+-- and that it does so for unmarked packets too
+pub leads-unmarked : (p q : ℕ) (marked : Bool) (w : Window) → leads p q marked w ≡ true → leads p q false w ≡ true
+leads-unmarked p q marked w e = sym (and-yes (inForce p w && eqb (destination w) q) (admits false w) true (led p q marked w e .0) refl)
 
 -- an address that a span holds
 pub spanned : (base k a : ℕ) → spans base k a ≡ true → (base ≤ a) × (a - base < 2 ^ k)

@@ -1,14 +1,14 @@
 -- Test by test as in the definition: refused three times, or done with the row that holds the values. Assumes nothing.
 use borrow.Author.Needs.{needs}
 use native.Mathlib.Omega.{arith}
-use Prim.Native.Nat.{ℕ, _+_, _*_}
+use Prim.Native.Nat.{ℕ}
 use mathlib.Core.Path.{_≡_, refl, sym, ap, _∙_}
 use lib.Dec.{eqb}
 use lib.ListN.{length}
 use denote.Ref.{now}
 use Rattle.header.proofs.Laws.Pick.{hit, pass, told}
 use Rattle.tables.proofs.Laws.Answer.{when-done, when-refused}
-use Rattle.windows.specs.Edit.{controlWord, withRow, setWindowNumber}
+use Rattle.windows.specs.Edit.{withRow, setWindowNumber}
 use Rattle.windows.proofs.Laws.Edit.{right-window, right-values}
 use Rattle.windows.proofs.edit.set_window.Statement.{statement}
 use Rattle.windows.proofs.edit.set_window.Tie as tie
@@ -59,18 +59,8 @@ returns-3 c =
     let e : 11 ≡ setWindowNumber (a .p) (a .slot) (a .base) (a .target) (a .k) (a .q) (now (a .windows)) = pass _ _ _ (told (c .before .before .before .before .before .before .wrong-window .ensures) (c .before .before .before .before .before .if1 .left)) (pass _ _ _ (told (c .before .before .before .before .wrong-values .ensures) (c .before .before .before .if2 .left)) (hit _ _ _ (told (c .before .overlaps .ensures) (c .if3 .taken)) refl)) in
     (e, when-refused _ _ _ (ap (λ (n : ℕ). eqb n 0) (sym e)))
 
-mul-control : tie.Need-mul-control
-mul-control c =
-    let a = c .before .before .before .before .before .before .before .before .args in
-    omega (arith, right-values (a .p) (a .base) (a .target) (a .k) (a .q) (told (c .before .before .before .before .wrong-values .ensures) (c .before .before .before .if2 .left)))
-
-add-control : tie.Need-add-control
-add-control c =
-    let a = c .before .before .before .before .before .before .before .before .args in
-    omega (arith, right-values (a .p) (a .base) (a .target) (a .k) (a .q) (told (c .before .before .before .before .wrong-values .ensures) (c .before .before .before .if2 .left)))
-
-add-control-2 : tie.Need-add-control-2
-add-control-2 c =
+control-word-requires : tie.Need-control-word-requires
+control-word-requires c κs =
     let a = c .before .before .before .before .before .before .before .before .args in
     omega (arith, right-values (a .p) (a .base) (a .target) (a .k) (a .q) (told (c .before .before .before .before .wrong-values .ensures) (c .before .before .before .if2 .left)))
 
@@ -79,18 +69,18 @@ cast-control c = search needs
 
 cast-put-row : tie.Need-cast-put-row
 cast-put-row c =
-    let a = c .before .before .before .before .before .before .before .before .before .args in
-    omega (arith, right-window (a .p) (a .slot) (length (now (a .windows))) (told (c .before .before .before .before .before .before .before .wrong-window .ensures) (c .before .before .before .before .before .before .if1 .left)))
+    let a = c .before .before .before .before .before .before .before .before .before .before .args in
+    omega (arith, right-window (a .p) (a .slot) (length (now (a .windows))) (told (c .before .before .before .before .before .before .before .before .wrong-window .ensures) (c .before .before .before .before .before .before .before .if1 .left)))
 
 cast-put-row-2 : tie.Need-cast-put-row-2
 cast-put-row-2 c =
-    let a = c .before .before .before .before .before .before .before .before .before .args in
-    omega (arith, right-window (a .p) (a .slot) (length (now (a .windows))) (told (c .before .before .before .before .before .before .before .wrong-window .ensures) (c .before .before .before .before .before .before .if1 .left)))
+    let a = c .before .before .before .before .before .before .before .before .before .before .args in
+    omega (arith, right-window (a .p) (a .slot) (length (now (a .windows))) (told (c .before .before .before .before .before .before .before .before .wrong-window .ensures) (c .before .before .before .before .before .before .before .if1 .left)))
 
 put-row-requires : tie.Need-put-row-requires
 put-row-requires c κs =
-    let a = c .before .before .before .before .before .before .before .before .before .args in
-    omega (arith, right-window (a .p) (a .slot) (length (now (a .windows))) (told (c .before .before .before .before .before .before .before .wrong-window .ensures) (c .before .before .before .before .before .before .if1 .left)))
+    let a = c .before .before .before .before .before .before .before .before .before .before .args in
+    omega (arith, right-window (a .p) (a .slot) (length (now (a .windows))) (told (c .before .before .before .before .before .before .before .before .wrong-window .ensures) (c .before .before .before .before .before .before .before .if1 .left)))
 
 same-length-2 : tie.Need-same-length-2
 same-length-2 c = search needs
@@ -98,10 +88,9 @@ same-length-2 c = search needs
 returns-4 : tie.Need-returns-4
 unfolding setWindowNumber
 returns-4 c =
-    let a = c .before .before .before .before .before .before .before .before .before .before .before .before .args in
-    let e : 0 ≡ setWindowNumber (a .p) (a .slot) (a .base) (a .target) (a .k) (a .q) (now (a .windows)) = pass _ _ _ (told (c .before .before .before .before .before .before .before .before .before .before .wrong-window .ensures) (c .before .before .before .before .before .before .before .before .before .if1 .left)) (pass _ _ _ (told (c .before .before .before .before .before .before .before .before .wrong-values .ensures) (c .before .before .before .before .before .before .before .if2 .left)) (pass _ _ _ (told (c .before .before .before .before .before .overlaps .ensures) (c .before .before .before .before .if3 .left)) refl)) in
-    let w : 4096 + 256 * a .q + a .k ≡ controlWord (a .k) (a .q) = omega arith in
-    (e, c .before .before .put-row .ensures ∙ ap (λ (x : ℕ). withRow (a .p) (a .slot) (a .base) (a .target) x (now (a .windows))) w ∙ when-done _ _ _ (sym e))
+    let a = c .before .before .before .before .before .before .before .before .before .before .before .before .before .args in
+    let e : 0 ≡ setWindowNumber (a .p) (a .slot) (a .base) (a .target) (a .k) (a .q) (now (a .windows)) = pass _ _ _ (told (c .before .before .before .before .before .before .before .before .before .before .before .wrong-window .ensures) (c .before .before .before .before .before .before .before .before .before .before .if1 .left)) (pass _ _ _ (told (c .before .before .before .before .before .before .before .before .before .wrong-values .ensures) (c .before .before .before .before .before .before .before .before .if2 .left)) (pass _ _ _ (told (c .before .before .before .before .before .before .overlaps .ensures) (c .before .before .before .before .before .if3 .left)) refl)) in
+    (e, c .before .before .put-row .ensures ∙ ap (λ (x : ℕ). withRow (a .p) (a .slot) (a .base) (a .target) x (now (a .windows))) (c .before .before .before .before .control-word .ensures) ∙ when-done _ _ _ (sym e))
 
 pub set-window-spec : {M : Type 1} → statement M
 set-window-spec =
@@ -116,9 +105,7 @@ set-window-spec =
     overlaps-requires
     same-length
     returns-3
-    mul-control
-    add-control
-    add-control-2
+    control-word-requires
     cast-control
     cast-put-row
     cast-put-row-2

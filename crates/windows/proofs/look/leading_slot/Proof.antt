@@ -12,19 +12,21 @@ use Rattle.windows.proofs.look.leading_slot.Statement.{statement}
 use Rattle.windows.proofs.look.leading_slot.Tie as tie
 
 abbrev Inv-loop : tie.InvT-loop
-Inv-loop windows p q s₀ s = (s ≤ 16) × (leadingSlot (windows) p q ≡ first (slotLeads (windows) p q) s (16 - s))
+Inv-loop windows p q marked s₀ s = (s ≤ 16) × (leadingSlot windows p q marked ≡ first (slotLeads windows p q marked) s (16 - s))
 
 abbrev μ-loop : tie.MeasureT-loop
-μ-loop windows p q s₀ s = 16 - s
+μ-loop windows p q marked s₀ s = 16 - s
 
 loop-holds : tie.Need-loop-holds Inv-loop μ-loop
-loop-holds c = ((omega arith), refl)
+loop-holds c = (omega arith, refl)
 
 slot-leads-requires : tie.Need-slot-leads-requires Inv-loop μ-loop
 slot-leads-requires c κs = search needs
 
 returns : tie.Need-returns Inv-loop μ-loop
-returns c = sym (c .before .before .before .loop .inv .1 ∙ stop (slotLeads (now (c .before .before .before .before .before .args .windows)) (c .before .before .before .before .before .args .p) (c .before .before .before .before .before .args .q)) (c .before .before .before .loop .s) 16 (c .before .before .loop-test .taken) (told (c .before .slot-leads .ensures) (c .if1 .taken)))
+returns c =
+    let a = c .before .before .before .before .before .args in
+    sym (c .before .before .before .loop .inv .1 ∙ stop (slotLeads (now (a .windows)) (a .p) (a .q) (a .marked)) (c .before .before .before .loop .s) 16 (c .before .before .loop-test .taken) (told (c .before .slot-leads .ensures) (c .if1 .taken)))
 
 add-s : tie.Need-add-s Inv-loop μ-loop
 add-s c = search needs
@@ -33,10 +35,14 @@ loop-less : tie.Need-loop-less Inv-loop μ-loop
 loop-less c = omega arith
 
 loop-again : tie.Need-loop-again Inv-loop μ-loop
-loop-again c = ((omega arith), c .before .before .before .loop .inv .1 ∙ go-on (slotLeads (now (c .before .before .before .before .before .args .windows)) (c .before .before .before .before .before .args .p) (c .before .before .before .before .before .args .q)) (c .before .before .before .loop .s) 16 (c .before .before .loop-test .taken) (told (c .before .slot-leads .ensures) (c .if1 .left)))
+loop-again c =
+    let a = c .before .before .before .before .before .args in
+    (omega arith, c .before .before .before .loop .inv .1 ∙ go-on (slotLeads (now (a .windows)) (a .p) (a .q) (a .marked)) (c .before .before .before .loop .s) 16 (c .before .before .loop-test .taken) (told (c .before .slot-leads .ensures) (c .if1 .left)))
 
 returns-2 : tie.Need-returns-2 Inv-loop μ-loop
-returns-2 c = sym (c .before .loop .inv .1 ∙ end (slotLeads (now (c .before .before .before .args .windows)) (c .before .before .before .args .p) (c .before .before .before .args .q)) (c .before .loop .s) 16 (c .loop-test .left))
+returns-2 c =
+    let a = c .before .before .before .args in
+    sym (c .before .loop .inv .1 ∙ end (slotLeads (now (a .windows)) (a .p) (a .q) (a .marked)) (c .before .loop .s) 16 (c .loop-test .left))
 
 pub leading-slot-spec : {M : Type 1} → statement M
 leading-slot-spec =

@@ -12,7 +12,9 @@ leads-requires : tie.Need-leads-requires
 leads-requires c κs = search needs
 
 returns : tie.Need-returns
-returns c = c .leads .ensures ∙ ap (leads (c .before .before .before .args .p) (c .before .before .before .args .q)) (c .before .read .ensures)
+returns c =
+    let a = c .before .before .before .args in
+    c .leads .ensures ∙ ap (leads (a .p) (a .q) (a .marked)) (c .before .read .ensures)
 
 pub slot-leads-spec : {M : Type 1} → statement M
 slot-leads-spec = tie.close (tie.spec read-requires leads-requires returns)

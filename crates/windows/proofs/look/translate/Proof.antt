@@ -12,8 +12,12 @@ sub-t4 c = search needs
 add-t5 : tie.Need-add-t5
 add-t5 c = search needs
 
+passes-marked-requires : tie.Need-passes-marked-requires
+passes-marked-requires c κs = search needs
+
 returns : tie.Need-returns
 returns c = cc
 
 pub translate-spec : {M : Type 1} → statement M
-translate-spec = tie.close (tie.spec destination-requires sub-t4 add-t5 returns)
+translate-spec =
+    tie.close (tie.spec destination-requires sub-t4 add-t5 passes-marked-requires returns)

@@ -1,4 +1,4 @@
--- The two tests, joined as the definition joins them. Assumes nothing.
+-- The three tests, joined as the definition joins them. Assumes nothing.
 use borrow.Author.Needs.{needs}
 use Rattle.windows.proofs.row.Window.leads.Statement.{statement}
 use Rattle.windows.proofs.row.Window.leads.Tie as tie
@@ -9,8 +9,12 @@ in-force-requires c κs = search needs
 destination-requires : tie.Need-destination-requires
 destination-requires c κs = search needs
 
+admits-requires : tie.Need-admits-requires
+admits-requires c κs = search needs
+
 returns : tie.Need-returns
 returns c = cc
 
 pub leads-spec : {M : Type 1} → statement M
-leads-spec = tie.close (tie.spec in-force-requires destination-requires returns)
+leads-spec =
+    tie.close (tie.spec in-force-requires destination-requires admits-requires returns)
