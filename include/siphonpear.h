@@ -115,7 +115,7 @@ uint32_t siphon_pass(uint32_t p,
 
 /*
  * Opens a window of 2^k bytes in this slot of partition p: address base of p becomes address target of partition q. If marked
- * is 0, no marked packet passes; if it is any other number, marked packets may pass. No refusal of this call depends on it.
+ * is 0, no marked packet passes by it; if it is any other number, they may. No refusal of this call depends on it.
  * Writes its row, from windows[48 * p + 3 * slot] on: base, target and control. Control is 0x1000 + 0x100 * q + k, and 0x2000
  * more where marked packets may pass: bits 7:0 are k, 11:8 are q, 12 is set in every window, 13 is for marked packets. A row
  * with a bit above 13 is not in force.

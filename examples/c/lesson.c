@@ -1,6 +1,6 @@
 /* A lesson over the switch, from C: a window is open for student 15, a read crosses and its completion comes back; then a
-   marked breakdown, where a write with EP set crosses through the window that the teacher chose and is refused at the next;
-   then an examination, where the same read is refused and logged. Prints each step; ends with 1 if a call returned another
+   marked breakdown, where the teacher's write with EP set reaches the dash of student 15 through the chosen window and is
+   refused at its neighbour, the window to student 14; then an examination, where the same read is refused and logged. Prints each step; ends with 1 if a call returned another
    number. */
 #include <stdint.h>
 #include <stdio.h>
@@ -8,7 +8,7 @@
 
 #include "siphonpear.h"
 
-enum { TEACHER = 0, STUDENT = 15 };
+enum { TEACHER = 0, NEIGHBOUR = 14, STUDENT = 15 };
 
 static uint64_t windows[SIPHON_WINDOWS];
 static uint32_t numbers[SIPHON_NUMBERS];
@@ -93,16 +93,16 @@ static void print_log(uint32_t p)
     print_words(row + 2, 4);
 }
 
-/* Opens a window of 1 MiB in a slot of student 15, to the teacher; marked packets may pass where marked is not 0. */
-static void open_window(uint32_t slot, uint64_t base, uint64_t target, uint32_t marked)
+/* Opens a window of 1 MiB in a slot of partition p, to q; marked packets may pass where marked is not 0. */
+static void open_window(uint32_t p, uint32_t slot, uint64_t base, uint64_t target, uint32_t q, uint32_t marked)
 {
-    uint32_t number = siphon_set_window(STUDENT, slot, base, target, 20, TEACHER, marked, windows, SIPHON_WINDOWS);
+    uint32_t number = siphon_set_window(p, slot, base, target, 20, q, marked, windows, SIPHON_WINDOWS);
     must("siphon_set_window", number, SIPHON_DONE);
 }
 
-static void shut_window(uint32_t slot)
+static void shut_window(uint32_t p, uint32_t slot)
 {
-    must("siphon_empty_window", siphon_empty_window(STUDENT, slot, windows, SIPHON_WINDOWS), SIPHON_DONE);
+    must("siphon_empty_window", siphon_empty_window(p, slot, windows, SIPHON_WINDOWS), SIPHON_DONE);
 }
 
 static void clear_log(uint32_t p)
@@ -122,35 +122,37 @@ static void begin(void)
         must("siphon_set_bus", siphon_set_bus(p, p + 1, numbers, SIPHON_NUMBERS), SIPHON_DONE);
     }
     must("siphon_set_entry", siphon_set_entry(STUDENT, 0, 0x0300, numbers, SIPHON_NUMBERS), SIPHON_DONE);
+    must("siphon_set_entry", siphon_set_entry(TEACHER, 0, 0x0108, numbers, SIPHON_NUMBERS), SIPHON_DONE);
 }
 
 int main(void)
 {
     static const uint32_t read[] = {0x00000001, 0x0300050F, 0x90000010};
     static const uint32_t completion[] = {0x4A000001, 0x01000004, 0x017C0510, 0x00000037};
-    static const uint32_t marked_write[] = {0x40004001, 0x0300060F, 0x90000010, 0x000000FF};
-    static const uint32_t marked_beside[] = {0x40004001, 0x0300060F, 0x90100010, 0x000000FF};
-    static const uint32_t marked_completion[] = {0x4A004001, 0x01000004, 0x017C0510, 0x00000037};
+    static const uint32_t marked_write[] = {0x40004001, 0x0108020F, 0xC0F00020, 0x00000001};
+    static const uint32_t marked_beside[] = {0x40004001, 0x0108020F, 0xC0E00020, 0x00000001};
+    static const uint32_t marked_completion[] = {0x4A004001, 0x10000004, 0x10400320, 0x00000001};
 
     begin();
     printf("A class: the window of student 15 is open.\n");
-    open_window(0, 0x90000000, 0x140000000, 0);
+    open_window(STUDENT, 0, 0x90000000, 0x140000000, TEACHER, 0);
     pass("a read", STUDENT, read, 3, SIPHON_DONE);
     pass("its completion", TEACHER, completion, 4, SIPHON_DONE);
     print_log(STUDENT);
 
-    printf("A marked breakdown: marked packets may pass at the window of 90000000, and not at its neighbour of 90100000.\n");
-    open_window(0, 0x90000000, 0x140000000, 1);
-    open_window(1, 0x90100000, 0x140100000, 0);
-    pass("a marked write", STUDENT, marked_write, 4, SIPHON_DONE);
-    pass("the same write at the neighbour", STUDENT, marked_beside, 4, SIPHON_POISONED);
-    pass("a marked completion", TEACHER, marked_completion, 4, SIPHON_DONE);
-    print_log(STUDENT);
+    printf("A marked breakdown: marked packets may pass from the teacher to student 15, and not to student 14.\n");
+    open_window(TEACHER, 15, 0xC0F00000, 0x80000000, STUDENT, 1);
+    open_window(TEACHER, 14, 0xC0E00000, 0x80000000, NEIGHBOUR, 0);
+    pass("a marked write to 15", TEACHER, marked_write, 4, SIPHON_DONE);
+    pass("the same to 14", TEACHER, marked_beside, 4, SIPHON_POISONED);
+    pass("a marked completion", STUDENT, marked_completion, 4, SIPHON_DONE);
+    print_log(TEACHER);
 
-    printf("An examination: the log is cleared, and both windows are shut.\n");
-    clear_log(STUDENT);
-    shut_window(0);
-    shut_window(1);
+    printf("An examination: the log is cleared, and all windows are shut.\n");
+    clear_log(TEACHER);
+    shut_window(STUDENT, 0);
+    shut_window(TEACHER, 15);
+    shut_window(TEACHER, 14);
     pass("the same read", STUDENT, read, 3, SIPHON_NO_WINDOW);
     pass("the same completion", TEACHER, completion, 4, SIPHON_NOT_PASSABLE);
     print_log(STUDENT);

@@ -1,6 +1,6 @@
 //! A lesson over the switch, from Rust: a window is open for student 15, a read crosses and its completion comes back; then
-//! a marked breakdown, where a write with EP set crosses through the window that the teacher chose and is refused at the
-//! next; then an examination, where the same read is refused and logged. Prints what examples/c/lesson.c prints; ends
+//! a marked breakdown, where the teacher's write with EP set reaches the dash of student 15 through the chosen window and
+//! is refused at its neighbour, the window to student 14; then an examination, where the same read is refused and logged. Prints what examples/c/lesson.c prints; ends
 //! with 1 if a call gave something else than it must.
 #![forbid(unsafe_code)]
 
@@ -8,12 +8,13 @@ use siphonpear::{Refusal, Switch, Window, Words, OUT};
 use std::error::Error;
 
 const TEACHER: u32 = 0;
+const NEIGHBOUR: u32 = 14;
 const STUDENT: u32 = 15;
 const READ: [u32; 3] = [0x0000_0001, 0x0300_050F, 0x9000_0010];
 const COMPLETION: [u32; 4] = [0x4A00_0001, 0x0100_0004, 0x017C_0510, 0x0000_0037];
-const MARKED_WRITE: [u32; 4] = [0x4000_4001, 0x0300_060F, 0x9000_0010, 0x0000_00FF];
-const MARKED_BESIDE: [u32; 4] = [0x4000_4001, 0x0300_060F, 0x9010_0010, 0x0000_00FF];
-const MARKED_COMPLETION: [u32; 4] = [0x4A00_4001, 0x0100_0004, 0x017C_0510, 0x0000_0037];
+const MARKED_WRITE: [u32; 4] = [0x4000_4001, 0x0108_020F, 0xC0F0_0020, 0x0000_0001];
+const MARKED_BESIDE: [u32; 4] = [0x4000_4001, 0x0108_020F, 0xC0E0_0020, 0x0000_0001];
+const MARKED_COMPLETION: [u32; 4] = [0x4A00_4001, 0x1000_0004, 0x1040_0320, 0x0000_0001];
 
 /// Passes a packet, prints what became of it, and holds the refusal to the one wanted.
 fn pass(switch: &mut Switch, name: &str, from: u32, words: &[u32], wanted: Option<Refusal>) -> Result<(), Box<dyn Error>> {
@@ -41,6 +42,7 @@ fn main() -> Result<(), Box<dyn Error>> {
         switch.set_bus(p, p + 1)?;
     }
     switch.set_entry(STUDENT, 0, 0x0300)?;
+    switch.set_entry(TEACHER, 0, 0x0108)?;
 
     println!("A class: the window of student 15 is open.");
     let window = Window { base: 0x9000_0000, target: 0x1_4000_0000, k: 20, to: TEACHER, marked: false };
@@ -49,18 +51,20 @@ fn main() -> Result<(), Box<dyn Error>> {
     pass(&mut switch, "its completion", TEACHER, &COMPLETION, None)?;
     print_log(&switch, STUDENT)?;
 
-    println!("A marked breakdown: marked packets may pass at the window of 90000000, and not at its neighbour of 90100000.");
-    switch.set_window(STUDENT, 0, Window { marked: true, ..window })?;
-    switch.set_window(STUDENT, 1, Window { base: 0x9010_0000, target: 0x1_4010_0000, ..window })?;
-    pass(&mut switch, "a marked write", STUDENT, &MARKED_WRITE, None)?;
-    pass(&mut switch, "the same write at the neighbour", STUDENT, &MARKED_BESIDE, Some(Refusal::Poisoned))?;
-    pass(&mut switch, "a marked completion", TEACHER, &MARKED_COMPLETION, None)?;
-    print_log(&switch, STUDENT)?;
+    println!("A marked breakdown: marked packets may pass from the teacher to student 15, and not to student 14.");
+    let chosen = Window { base: 0xC0F0_0000, target: 0x8000_0000, k: 20, to: STUDENT, marked: true };
+    switch.set_window(TEACHER, 15, chosen)?;
+    switch.set_window(TEACHER, 14, Window { base: 0xC0E0_0000, to: NEIGHBOUR, marked: false, ..chosen })?;
+    pass(&mut switch, "a marked write to 15", TEACHER, &MARKED_WRITE, None)?;
+    pass(&mut switch, "the same to 14", TEACHER, &MARKED_BESIDE, Some(Refusal::Poisoned))?;
+    pass(&mut switch, "a marked completion", STUDENT, &MARKED_COMPLETION, None)?;
+    print_log(&switch, TEACHER)?;
 
-    println!("An examination: the log is cleared, and both windows are shut.");
-    switch.clear_log(STUDENT, 0xFFFF_FFFF)?;
+    println!("An examination: the log is cleared, and all windows are shut.");
+    switch.clear_log(TEACHER, 0xFFFF_FFFF)?;
     switch.empty_window(STUDENT, 0)?;
-    switch.empty_window(STUDENT, 1)?;
+    switch.empty_window(TEACHER, 15)?;
+    switch.empty_window(TEACHER, 14)?;
     pass(&mut switch, "the same read", STUDENT, &READ, Some(Refusal::NoWindow))?;
     pass(&mut switch, "the same completion", TEACHER, &COMPLETION, Some(Refusal::NotPassable))?;
     print_log(&switch, STUDENT)?;

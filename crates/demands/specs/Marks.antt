@@ -1,5 +1,5 @@
--- R-3: a marked packet, whose EP is set: that it stays marked, where it passes, and where 5 refuses it.
-use Prim.Native.Nat.{ℕ, _/_, _%_, _≤_, _<_}
+-- R-3: a marked packet, whose EP is set: that it stays marked where it passes, and where it does not pass.
+use Prim.Native.Nat.{ℕ, _/_, _≤_, _<_}
 use mathlib.Core.Bool.{Bool, true, false}
 use mathlib.Core.Path.{_≡_}
 use mathlib.Core.List.{List}
@@ -8,9 +8,12 @@ use Rattle.header.specs.Kind.{isCompletion}
 use Rattle.header.specs.Words.{headerOf}
 use Rattle.header.specs.Fields.{kind, isPoisoned, address, completionRequesterId}
 use Rattle.windows.specs.Row.{rowOf, passesMarked, covers, leads}
+use Rattle.numbers.specs.Entries.{entryAt}
+use Rattle.numbers.specs.Buses.{busOf}
+use Rattle.numbers.specs.declared.entries.Entry.the-variants.{Held}
 use Rattle.switch.specs.declared.answer.Sent.{Sent}
 use Rattle.switch.specs.Answer.{Answer, crossed, answered, dropped}
-use Rattle.switch.specs.Rule.{isPassable}
+use Rattle.switch.specs.Rule.{mappedId, isPassable}
 use Rattle.demands.specs.Call.{Call, answerOf, cameOut, isRequest, Lent}
 
 -- the packet is marked
@@ -47,8 +50,13 @@ pub record RequestStopped (c : Call) : Type 0 where
 -- a completion that 9 does not refuse: of the owner's rows in force to the sender none has the bit
 pub record CompletionStopped (c : Call) : Type 0 where
   pub completion : isCompletion (kind (headerOf (c .packet))) ≡ true
+  pub index : ℕ
+  pub index-lt : index < 64
+  pub number : completionRequesterId (headerOf (c .packet)) ≡ mappedId (busOf (c .numbers) (c .sender)) index
+  pub id : ℕ
+  pub filled : entryAt (c .numbers) index ≡ Held id
   pub owner : ℕ
-  pub named : owner ≡ completionRequesterId (headerOf (c .packet)) % 64 / 4
+  pub named : owner ≡ index / 4
   pub passable : isPassable owner (c .sender) (c .windows) (c .numbers) ≡ true
   pub absent : (s : ℕ) → s < 16 → leads owner (c .sender) true (rowOf (c .windows) owner s) ≡ false
 

@@ -1,4 +1,4 @@
-// R-3: marked packets over the exam sheet, where partition 1 has one row more.
+// R-3: marked packets over the exam sheet, where partition 1 has one row more, or another.
 use crate::packet::packet_over;
 use crate::sheet::row;
 use header::words::Header;

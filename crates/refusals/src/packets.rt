@@ -334,7 +334,7 @@ fn poisoned() {
     );
 }
 
-// Poisoned writes, and poisoned completions, which are refused by 9 first.
+// Poisoned writes; and poisoned completions, by 5 where there is a way back, and by 9 where there is none.
 fn poisoned_others() {
     one(b"H", 16, 0x4000_4001, 0x0300_050F, 0x9000_0010);
     wide(b"a 64-bit write with EP", 20, 0x6000_4001, 1, 0x9000_0010);

@@ -2,12 +2,12 @@
 -- bit of the request's own window, or of every row on the completion's way back, is absent.
 -- No rewriting moves bit 14 of word 0; what crossed was admitted by its row; and along the rule, definition by definition, 5 is given at
 -- two tests, which say so. Assumes nothing.
-use Prim.Native.Nat.{ℕ, _/_, _%_}
+use Prim.Native.Nat.{ℕ, _/_, _%_, _<_}
 use mathlib.Core.Path.{_≡_, refl, sym, ap, _∙_}
 use mathlib.Core.Bool.{Bool, true, false, not, _||_, true≢false}
 use mathlib.Core.Logic.{_⊎_, inl, inr, ⊎-elim}
 use native.Mathlib.Omega.{arith}
-use borrow.Author.Tests.{not-true, not-false}
+use borrow.Author.Tests.{eqb-true, not-true, not-false}
 use lib.Dec.{eqb}
 use lib.ListN.{length}
 use Rattle.header.specs.Words.{headerOf}
@@ -127,13 +127,14 @@ module _ (c : Call) (reading : Bool) (r : IsRequest (c .packet)) where
   unfolding requestRule
   request-why = window-why (lookUp (c .windows) (c .sender) (address head)) refl
 
--- a completion
-module _ (c : Call) (k : IsCompletion (c .packet)) where
+-- a completion, under the number of its sender's bus and the index i
+module _ (c : Call) (k : IsCompletion (c .packet)) (i : ℕ) (l : i < 64) (n : completionRequesterId (headerOf (c .packet)) ≡ mappedId (busOf (c .numbers) (c .sender)) i) where
   -- 9 and 5, of the owner
-  owner-why : (id owner : ℕ) → owner ≡ completionRequesterId (headerOf (c .packet)) % 64 / 4 → Why5 c (toOwner id owner (c .sender) (headerOf (c .packet)) (c .windows) (c .numbers))
+  owner-why : (id : ℕ) → entryAt (c .numbers) i ≡ Held id → Why5 c (toOwner id (i / 4) (c .sender) (headerOf (c .packet)) (c .windows) (c .numbers))
   unfolding toOwner
-  owner-why id owner own =
+  owner-why id f =
       let h = headerOf (c .packet) in
+      let owner = i / 4 in
       let chosen = reaches (c .windows) owner (c .sender) true in
       let ok = isPassable owner (c .sender) (c .windows) (c .numbers) in
       either (Why5 c) (not ok) (λ _ e. absurd (omega (arith, e)))
@@ -143,8 +144,13 @@ module _ (c : Call) (k : IsCompletion (c .packet)) where
         b .0,
         inr (record {
           completion = inverted-completion (length (c .packet)) h h k .0 .completion;
+          index = i;
+          index-lt = l;
+          number = n;
+          id = id;
+          filled = f;
           owner = owner;
-          named = own;
+          named = refl;
           passable = not-false ok p;
           absent = no-reach-no-row (c .windows) owner (c .sender) true (not-true chosen (b .1));
         }),
@@ -152,17 +158,18 @@ module _ (c : Call) (k : IsCompletion (c .packet)) where
       (λ _ z. absurd z))
 
   -- 9, of the entry
-  held-why : (e : Entry) (i : ℕ) → i ≡ completionRequesterId (headerOf (c .packet)) % 64 → Why5 c (throughHeld e i (c .sender) (headerOf (c .packet)) (c .windows) (c .numbers))
-  held-why Free i own = λ e. absurd (omega (arith, e))
-  held-why (Held id) i own = owner-why id (i / 4) (ap (λ (n : ℕ). n / 4) own)
+  held-why : (e : Entry) → entryAt (c .numbers) i ≡ e → Why5 c (throughHeld e i (c .sender) (headerOf (c .packet)) (c .windows) (c .numbers))
+  held-why Free f = λ e. absurd (omega (arith, e))
+  held-why (Held id) f = owner-why id f
 
-  -- all of them
-  completion-why : (bus : ℕ) → Why5 c (completionRule (c .sender) bus (headerOf (c .packet)) (c .windows) (c .numbers))
-  unfolding completionRule
-  completion-why bus =
-      let n = completionRequesterId (headerOf (c .packet)) in
-      either (Why5 c) (not (eqb n (mappedId bus (n % 64)))) (λ _ e. absurd (omega (arith, e)))
-      (λ _. held-why (entryAt (c .numbers) (n % 64)) (n % 64) refl)
+-- 9, of the number, and all of them
+completion-why : (c : Call) → IsCompletion (c .packet) → Why5 c (completionRule (c .sender) (busOf (c .numbers) (c .sender)) (headerOf (c .packet)) (c .windows) (c .numbers))
+unfolding completionRule
+completion-why c k =
+    let n = completionRequesterId (headerOf (c .packet)) in
+    let own = mappedId (busOf (c .numbers) (c .sender)) (n % 64) in
+    either (Why5 c) (not (eqb n own)) (λ _ e. absurd (omega (arith, e)))
+    (λ t. held-why c k (n % 64) (omega arith) (eqb-true n own (not-false (eqb n own) t)) (entryAt (c .numbers) (n % 64)) refl)
 
 -- every call's answer
 pub five-only-there : FiveOnlyThere
@@ -178,5 +185,5 @@ five-only-there c =
     (λ r _ e. absurd (omega (arith, form-number r, e)))
     (λ _ q. request-why c true (inl q))
     (λ q. request-why c false (inr q))
-    (λ q. completion-why c q bus)
+    (λ q. completion-why c q)
     refl))

@@ -1,4 +1,4 @@
--- The number and the tag that a crossed request goes out with, as its header words say them, and the bounds they rest on.
+-- The number, the tag, the mark and the Length that a crossed request goes out with, as its header words say them, and the bounds they rest on.
 -- A translated address fits 64 bits and keeps its low twelve, a bus of an active partition fits eight, an index six; the rewriting's
 -- laws give the fields.
 -- Assumes nothing; that the windows are words of 64 bits is a premise, which every slice of u64 meets.

@@ -4,12 +4,12 @@
 -- marked.
 -- The number names bus and index, the index the entry and its owner, and none of the completion's tests fails; so it crosses, comes
 -- out whole, and its bytes are those of a returned completion. Assumes nothing.
-use Prim.Native.Nat.{ℕ, zero, suc, _+_, _*_, _/_, _%_, _^_, _≤_, _<_}
+use Prim.Native.Nat.{ℕ, _+_, _*_, _/_, _%_, _^_, _<_}
 use mathlib.Core.Path.{_≡_, refl, sym, ap, _∙_, subst}
 use mathlib.Core.Bool.{Bool, true, false, not, _&&_, true≢false}
 use mathlib.Core.List.{List}
 use native.Mathlib.Omega.{arith}
-use borrow.Author.Tests.{eq-eqb, ne-eqb, lt-ltb, eqb-true, ltb-false, not-false}
+use borrow.Author.Tests.{eq-eqb, ne-eqb, eqb-true, ltb-false, not-false}
 use lib.Dec.{eqb, ltb}
 use lib.ListN.{length}
 use Rattle.header.specs.Words.{headerOf}
@@ -21,14 +21,12 @@ use Rattle.header.proofs.Laws.Field.{field-lt}
 use Rattle.header.proofs.Laws.Rewrite.{returned-requester, returned-tag}
 use Rattle.tlp.specs.declared.form.Packet.{Packet}
 use Rattle.tlp.proofs.Laws.Form.{inverted-completion}
-use Rattle.tables.specs.Scan.{first}
-use Rattle.tables.proofs.Laws.Scan.{found, missed}
 use Rattle.windows.specs.Row.{rowOf, exponent, inForce, spans, leads}
-use Rattle.windows.specs.Look.{lowestSlot, lookUp, slotLeads, leadingSlot, reaches}
+use Rattle.windows.specs.Look.{lowestSlot, lookUp, reaches}
 use Rattle.windows.specs.declared.look.Translation.{Translation}
 use Rattle.windows.specs.declared.look.Look.the-variants.{Open}
 use Rattle.windows.proofs.Laws.Row.{force, leads-unmarked}
-use Rattle.windows.proofs.Laws.Look.{opened}
+use Rattle.windows.proofs.Laws.Look.{opened, no-reach-no-row}
 use Rattle.numbers.specs.Entries.{lookAt, entryAt}
 use Rattle.numbers.specs.Buses.{busOf, isActive}
 use Rattle.numbers.specs.declared.entries.Entry.{Entry}
@@ -84,20 +82,13 @@ completion-crosses q c windows numbers logs out i id owner call active k number 
 owner-of : (p s i : ℕ) → s < 4 → i ≡ 4 * p + s → i / 4 ≡ p
 owner-of p s i l e = omega arith
 
--- a search stops before the end where the test holds at some place
-stops : (test : ℕ → Bool) (s n i : ℕ) → s ≤ i → i < s + n → test i ≡ true → first test s n < s + n
-stops test s zero i l h e = absurd (omega arith)
-stops test s (suc n) i l h e = by-test (test s) refl (λ k. stops test (suc s) n i k (omega arith) e)
-  where
-    by-test : (t : Bool) → test s ≡ t → (suc s ≤ i → first test (suc s) n < suc s + n) → first test s (suc n) < s + suc n
-    by-test true q r = omega (arith, found test s n q)
-    by-test false q r =
-        let other : s ≡ i → ⊥ = λ z. true≢false (sym e ∙ ap test (sym z) ∙ q) in
-        omega (arith, missed test s n q, r (omega arith))
-
 -- who has a row in force to another, for packets so marked, reaches it with them
 reaches-by : (windows : List ℕ) (p q : ℕ) (marked : Bool) (s : ℕ) → s < 16 → leads p q marked (rowOf windows p s) ≡ true → reaches windows p q marked ≡ true
-reaches-by windows p q marked s l e = lt-ltb (leadingSlot windows p q marked) 16 (stops (slotLeads windows p q marked) 0 16 s (omega arith) (omega arith) e)
+reaches-by windows p q marked s l e = by-test (reaches windows p q marked) refl
+  where
+    by-test : (t : Bool) → reaches windows p q marked ≡ t → reaches windows p q marked ≡ true
+    by-test true r = r
+    by-test false r = absurd (true≢false (sym e ∙ no-reach-no-row windows p q marked r s l))
 
 -- and these are not stopped
 not-stopped : (windows : List ℕ) (p q : ℕ) (marked : Bool) → reaches windows p q marked ≡ true → (marked && not (reaches windows p q true)) ≡ false

@@ -1,13 +1,14 @@
 -- R-3 is not empty: where slot 0 of partition 1 has the bit, H crosses and stays marked; and B with EP, after A, meets every premise of the
--- return and comes back to 1 under A's own requester ID and tag. Each premise is computed on the sheet's tables, but for that bit.
+-- return and comes back to 1 under A's own requester ID and tag. Where no row has it, B with EP is refused by 5, as H is in the sheet's own
+-- table. Each premise is computed on the sheet's tables, but for that bit.
 -- Assumes nothing.
 use Prim.Native.Nat.{ℕ, _≤_, _<_, _^_}
 use mathlib.Core.Path.{_≡_, refl, _∙_}
 use mathlib.Core.Bool.{true}
-use mathlib.Core.List.{List, [], _∷_, _++_}
+use mathlib.Core.List.{List, [], _∷_}
 use native.Mathlib.Omega.{arith}
 use borrow.Author.Tests.{le-ltb}
-use lib.ListN.{length, getD, replicate}
+use lib.ListN.{length, getD, set}
 use Rattle.header.specs.Pick.{pick}
 use Rattle.header.specs.Words.{wordAt}
 use Rattle.header.specs.Rewrite.{readdressed}
@@ -17,25 +18,25 @@ use Rattle.windows.specs.Row.{aligned, inForce, spans}
 use Rattle.windows.specs.Look.{lookUp}
 use Rattle.numbers.specs.Entries.{lookAt}
 use Rattle.switch.specs.declared.answer.Sent.{Sent}
-use Rattle.switch.specs.Answer.{crossed}
-use Rattle.switch.specs.Rule.{toDestination, throughMark, requestRule, passRule}
+use Rattle.switch.specs.Answer.{crossed, dropped}
+use Rattle.switch.specs.Rule.{toDestination, throughMark, requestRule, toOwner, completionRule, passRule}
 use Rattle.demands.specs.Call.{Call, Lent, answerOf, cameOut}
 use Rattle.demands.specs.Demand3.{ComesBack}
 use Rattle.demands.specs.Marks.{isMarked}
 use Rattle.demands.proofs.Laws.Marks.{mark-kept}
 use Rattle.demands.proofs.Laws.Return.{returns}
-use Rattle.sheet.specs.Tables.{numbers, logs}
+use Rattle.sheet.specs.Tables.{windows, numbers, logs}
 use Rattle.sheet.specs.Cases.{wire, four, words, caseA, caseH}
 use Rattle.sheet.proofs.Laws.Cases.{long-enough}
 use Rattle.sheet.proofs.Laws.Witness.{below, callOf, sentA, a-passed, completes-a}
 
--- the sheet's windows, with bit 13 in slot 0 of partition 1
+-- the sheet's windows, with bit 13 in the control word of slot 0 of partition 1
 unfoldable pub chosen : List ℕ
-chosen = replicate 48 0 ++ ((0x90000000 ∷ 0x140000000 ∷ 0x3014 ∷ 0xA0000000 ∷ 0 ∷ 0x130C ∷ []) ++ replicate 714 0)
+chosen = set windows 50 0x3014
 
 -- they are words of 64 bits
 chosen-fit : (i : ℕ) → getD chosen i 0 < 2 ^ 64
-unfolding chosen
+unfolding chosen windows
 chosen-fit i = below (2 ^ 64) chosen refl (omega arith) i
 
 -- B with EP
@@ -52,7 +53,7 @@ sentH = four (words 0x60004001 0x0146050F 0x00000001 0x40000010) 0 20
 
 -- H crosses
 pub h-crosses : (out : List ℕ) → 4112 ≤ length out → answerOf (over 1 (caseH .packet) out) ≡ crossed sentH
-unfolding pick wordAt readdressed requestForm formOf first aligned inForce spans lookUp lookAt toDestination throughMark requestRule passRule chosen numbers logs
+unfolding pick wordAt readdressed requestForm formOf first aligned inForce spans lookUp lookAt toDestination throughMark requestRule passRule chosen windows numbers logs
 h-crosses out h = long-enough 1 (caseH .packet) chosen numbers 96 (length out) h
 
 -- and stays marked
@@ -63,8 +64,13 @@ h-stays-marked out h =
 
 -- B with EP comes back after A, over any two Outs that are long enough
 pub marked-b-after-a : (o out : List ℕ) → 4112 ≤ length o → 4112 ≤ length out → ComesBack (callOf caseA o) (over 0 markedB out)
-unfolding pick wordAt formOf aligned inForce chosen numbers logs
+unfolding pick wordAt formOf aligned inForce chosen windows numbers logs
 marked-b-after-a o out g h =
     returns (callOf caseA o) (over 0 markedB out) sentA (a-passed o g)
     (completes-a o g (over 0 markedB out) (record { bytes = below (2 ^ 8) markedB refl (omega arith); words = chosen-fit }) refl refl (le-ltb (length out) 4112 h) refl refl refl)
     (record { entry = refl; own-bus = refl; bus = refl; slot = 0; slot-lt = omega arith; window = refl })
+
+-- and over the sheet's own windows it is refused by 5
+pub marked-b-refused : (out : List ℕ) → 4112 ≤ length out → passRule 0 markedB windows numbers 96 (length out) ≡ dropped 5
+unfolding pick wordAt formOf first aligned inForce lookAt toOwner completionRule passRule windows numbers
+marked-b-refused out h = long-enough 0 markedB windows numbers 96 (length out) h

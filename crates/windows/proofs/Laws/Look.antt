@@ -1,6 +1,6 @@
--- What a look-up found: a slot below sixteen whose row covers the address, and that row's translation; and that a partition with
--- no row in force opens nothing and reaches nobody.
--- The search's own law, at the row's test. Assumes nothing.
+-- What a look-up found: a slot below sixteen whose row covers the address, the lowest such, and that row's translation; that where nobody
+-- is reached no row leads; and that a partition with no row in force opens nothing and reaches nobody.
+-- The search's own laws, at the row's test. Assumes nothing.
 use Prim.Native.Nat.{ℕ, _<_}
 use mathlib.Core.Path.{_≡_, refl, sym, _∙_}
 use mathlib.Core.Bool.{Bool, true, false, _&&_, true≢false}

@@ -1,4 +1,4 @@
--- What a row in force tells, and what a covered address becomes: it fits 64 bits, and its low twelve bits stay.
+-- What a row in force tells, and one that leads somewhere; and what a covered address becomes: it fits 64 bits, and its low twelve bits stay.
 -- Base and target are multiples of 2^k, and the offset is below 2^k. Assumes nothing.
 use Prim.Native.Nat.{ℕ, _+_, _-_, _*_, _/_, _%_, _^_, _≤_, _<_}
 use mathlib.Core.Path.{_≡_, refl, sym, ap, _∙_}
