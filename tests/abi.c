@@ -150,13 +150,16 @@ static const uint32_t came_back[] = {SIPHON_CROSSED, 1, 16, 3, 0x4A004001, 0x020
 /* The window lets no marked packet pass. */
 static void marked_refused(void)
 {
-    expect("a marked write is refused", pass(1, marked_write, 16, sizeof out, 10) == SIPHON_POISONED && answer_is(marked_dropped));
+    expect("a marked write is refused", pass(1, marked_write, 16, sizeof out, 10) == SIPHON_POISONED
+           && answer_is(marked_dropped));
     expect("and logged as poisoned", logs[6] == (0xAAAAAAAA | 1u << SIPHON_LOG_POISONED));
-    expect("a marked read is answered", pass(1, marked_read, 12, sizeof out, 10) == SIPHON_POISONED && answer_is(marked_answered));
+    expect("a marked read is answered", pass(1, marked_read, 12, sizeof out, 10) == SIPHON_POISONED
+           && answer_is(marked_answered));
     expect("5 comes before 7", pass(1, marked_strange_write, 16, sizeof out, 10) == SIPHON_POISONED);
     expect("6 comes before 5", pass(1, marked_far_read, 12, sizeof out, 10) == SIPHON_NO_WINDOW && answer_is(marked_answered));
     expect("and is logged as 6", logs[6] == (0xAAAAAAAA | 1u << SIPHON_LOG_UNSUPPORTED));
-    expect("a marked completion is refused", pass(0, marked_completion, 16, sizeof out, 10) == SIPHON_POISONED && answer_is(marked_dropped));
+    expect("a marked completion is refused", pass(0, marked_completion, 16, sizeof out, 10) == SIPHON_POISONED
+           && answer_is(marked_dropped));
     expect("and logged in its sender's row", logs[0] == (0xAAAAAAAA | 1u << SIPHON_LOG_POISONED) && logs[6] == 0xAAAAAAAA);
     expect("9 comes before 5", pass(0, marked_stray, 16, sizeof out, 10) == SIPHON_NOT_PASSABLE && answer_is(marked_dropped));
     expect("and is logged as 9", logs[0] == (0xAAAAAAAA | 1u << SIPHON_LOG_UNEXPECTED_COMPLETION));
@@ -171,7 +174,8 @@ static void marked_crossing(void)
     expect("and is not logged", all_are(0xAA, 8, 20));
     expect("a marked read crosses", pass(1, marked_read, 12, sizeof out, 10) == SIPHON_DONE && answer_is(read_crossed));
     expect("a marked write with no entry", pass(1, marked_strange_write, 16, sizeof out, 10) == SIPHON_NO_ENTRY);
-    expect("a marked completion crosses", pass(0, marked_completion, 16, sizeof out, 10) == SIPHON_DONE && answer_is(came_back));
+    expect("a marked completion crosses", pass(0, marked_completion, 16, sizeof out, 10) == SIPHON_DONE
+           && answer_is(came_back));
     expect("with EP, and is not logged", out[0] == 0x4A && out[2] == 0x40 && all_are(0xAA, 8, 16));
 }
 
@@ -182,7 +186,8 @@ static void marked_in_two_slots(void)
     memcpy(row + 3, row, 3 * sizeof *row);
     row[2] = 0x1014;
     expect("a later window is not looked at", pass(1, marked_write, 16, sizeof out, 10) == SIPHON_POISONED);
-    expect("any window does for a completion", pass(0, marked_completion, 16, sizeof out, 10) == SIPHON_DONE && answer_is(came_back));
+    expect("any window does for a completion", pass(0, marked_completion, 16, sizeof out, 10) == SIPHON_DONE
+           && answer_is(came_back));
     row[5] = 0x7014;
     expect("with bit 14 a row is not in force", pass(0, marked_completion, 16, sizeof out, 10) == SIPHON_POISONED);
     row[2] = 0x5014;

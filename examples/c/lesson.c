@@ -1,7 +1,7 @@
 /* A lesson over the switch, from C: a window is open for student 15, a read crosses and its completion comes back; then a
    marked breakdown, where the teacher's write with EP set reaches the dash of student 15 through the chosen window and is
-   refused at its neighbour, the window to student 14; then an examination, where the same read is refused and logged. Prints each step; ends with 1 if a call returned another
-   number. */
+   refused at its neighbour, the window to student 14; then an examination, where the same read is refused and logged. Prints
+   each step; ends with 1 if a call returned another number. */
 #include <stdint.h>
 #include <stdio.h>
 #include <string.h>

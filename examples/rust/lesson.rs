@@ -1,7 +1,7 @@
 //! A lesson over the switch, from Rust: a window is open for student 15, a read crosses and its completion comes back; then
 //! a marked breakdown, where the teacher's write with EP set reaches the dash of student 15 through the chosen window and
-//! is refused at its neighbour, the window to student 14; then an examination, where the same read is refused and logged. Prints what examples/c/lesson.c prints; ends
-//! with 1 if a call gave something else than it must.
+//! is refused at its neighbour, the window to student 14; then an examination, where the same read is refused and logged.
+//! Prints what examples/c/lesson.c prints; ends with 1 if a call gave something else than it must.
 #![forbid(unsafe_code)]
 
 use siphonpear::{Refusal, Switch, Window, Words, OUT};
