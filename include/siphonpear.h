@@ -47,7 +47,6 @@ extern "C" {
 #define SIPHON_DONE 0
 #define SIPHON_WRONG_CALL 1           /* a number too large, or a buffer of a wrong length: see each call */
 #define SIPHON_SENDER_INACTIVE 2      /* the sender is inactive */
-#define SIPHON_FORM 3                 /* the packet is malformed */
 #define SIPHON_NOT_CARRIED 4          /* another kind of packet, or one with a digest or an address type */
 #define SIPHON_POISONED 5             /* the packet is marked (poisoned, EP set), and may not pass there */
 #define SIPHON_NO_WINDOW 6            /* no window of the sender covers the address */
@@ -57,32 +56,49 @@ extern "C" {
 #define SIPHON_WINDOW_VALUES 10       /* wrong values for a window */
 #define SIPHON_OVERLAP 11             /* the window would overlap another of its partition */
 #define SIPHON_REPETITION 12          /* another slot of the partition holds this ID */
+#define SIPHON_TOO_SHORT 31           /* the packet has fewer than 12 bytes */
+#define SIPHON_WRONG_LENGTH 32        /* the packet is longer or shorter than its first word says */
+#define SIPHON_ENABLES 33             /* a request of one dword with last enables, or a longer one with first or last 0 */
+#define SIPHON_CONTIGUITY 34          /* a gap between the bytes that the request enables, where none is allowed */
+#define SIPHON_PAGE_CROSSING 35       /* the request runs past the end of its 4 KiB page */
+#define SIPHON_ZERO_HIGH_WORD 36      /* a 64-bit header whose high word is 0: the address fits into 32 bits */
 
 /* The bits of a log's status, by their numbers: bit n is 1 << n. The first error of a row is such a number. */
 #define SIPHON_LOG_POISONED 12              /* refusal 5 */
 #define SIPHON_LOG_UNEXPECTED_COMPLETION 16 /* refusal 9 */
-#define SIPHON_LOG_MALFORMED 18             /* refusal 3 */
+#define SIPHON_LOG_MALFORMED 18             /* refusals 31 to 36 */
 #define SIPHON_LOG_UNSUPPORTED 20           /* refusals 4, 6, 7 and 8 */
 
 /*
  * Passes a packet that partition p sends: its header, then its data, in the order of the wire, and nothing else.
  *
- * Returns 0 if it crossed, else the refusal, 1 to 9: the first that strikes, in this order.
- *   1  answer_length under 8; p above 15; windows_length not 768, numbers_length not 80, logs_length not 96; out_length under
- *      4112
- *   2  p is inactive
- *   3  fewer than 12 bytes
- *   4  a kind that is not carried, TD set, or AT not 0
- *   3  any other fault of form: a wrong length, enables, a crossed page, a high word of 0
- * then for a request
- *   6  no window of p covers the address
- *   5  it is marked, and its window, the lowest slot in force that covers the address, lets no marked packet pass
- *   7  no entry of p holds the requester ID
- *   8  the window leads to an inactive partition
+ * Returns 0 if it crossed, else the refusal: 1, 2, 4 to 9 or 31 to 36. It is the first that strikes, in this order.
+ *   1   answer_length under 8; p above 15; windows_length not 768, numbers_length not 80, logs_length not 96; out_length
+ *       under 4112
+ *   2   p is inactive
+ *   31  the packet has fewer than 12 bytes, of whatever kind
+ *   4   a kind that is not carried, TD set, or AT not 0
+ *   32  packet_length is not what the first word makes it: 12, or 16 with a 64-bit address, and 4 * Length more for a write
+ *       or a completion with data. Length is bits 9:0 of the first word, and 0 there stands for 1024
+ * then for a request, where bits 3:0 of the second word are the first enables and bits 7:4 the last enables: which bytes of
+ * its first and of its last dword are meant, bit n for byte n; the lowest two bits of the address count as 0
+ *   33  Length 1, and the last enables are not 0; the first may be 0, which is a flush. Or Length above 1, and the first or
+ *       the last are 0
+ *   34  Length above 1, and there is a gap between the bytes that are meant: the first enables are none of 1111, 1110, 1100
+ *       and 1000, or the last none of 0001, 0011, 0111 and 1111. Gaps are allowed at Length 2 where the address is a multiple
+ *       of 8
+ *   35  (address % 4096) + 4 * Length is above 4096: it runs past the end of its 4 KiB page
+ *   36  its header is for a 64-bit address, and the high word is 0
+ *   6   no window of p covers the address
+ *   5   it is marked, and its window, the lowest slot in force that covers the address, lets no marked packet pass
+ *   7   no entry of p holds the requester ID
+ *   8   the window leads to an inactive partition
  * or for a completion
- *   9  no way back: the requester ID leads to no entry that is held; the owner of the entry is p itself, is inactive, or has no
- *      window to p
- *   5  it is marked, and no window of the owner to p lets marked packets pass; one that does is enough, in any slot
+ *   9   no way back: the requester ID leads to no entry that is held; the owner of the entry is p itself, is inactive, or
+ *       has no window to p
+ *   5   it is marked, and no window of the owner to p lets marked packets pass; one that does is enough, in any slot
+ *
+ * A read that 5, 6, 7 or 8 refuses is answered. Whatever else is refused is dropped.
  *
  * A marked packet that crosses stays marked, and is not logged. Packets that are not marked pass through windows of both sorts.
  *
@@ -95,9 +111,9 @@ extern "C" {
  *   If the packet was dropped, words 1 to 7 are 0. If answer_length is under 8, nothing is written, and no other buffer changes.
  * out: what came out, from the start: as many bytes as word 2 of the answer says. Bytes beyond them stay, and all of them stay
  *   if the packet was dropped.
- * logs: refusals 3 to 9 are logged in the row of p, which begins at logs[6 * p], whether the packet was answered or dropped. If
- *   the status was 0, first error becomes the number of the bit, and the header words those of the packet. Then the bit is set
- *   in the status. All else stays: crossings and refusals 1 and 2 are not logged.
+ * logs: all refusals but 1 and 2 are logged in the row of p, which begins at logs[6 * p], whether the packet was answered or
+ *   dropped. If the status was 0, first error becomes the number of the bit, and the header words those of the packet. Then
+ *   the bit is set in the status. All else stays: crossings and refusals 1 and 2 are not logged.
  * packet, windows, numbers: only read; every word of numbers is afterwards what it was.
  */
 uint32_t siphon_pass(uint32_t p,

@@ -1,6 +1,7 @@
 //! Runs a program on a stream of lessons, and compares every answer with the model's.
 
 use crate::cases::{Lessons, Step};
+use crate::form;
 use crate::stream::{self, Record};
 use crate::tally::{call_name, Tally};
 use std::io::{self, BufReader, Read, Write};
@@ -172,6 +173,7 @@ impl Reader<'_> {
         while let Some(step) = lessons.step() {
             self.number += 1;
             self.compare_answer(&step)?;
+            self.check_form(&step)?;
             tally.note(&step.record, step.answer[0], &lessons.bench);
             if step.record.call != stream::SHOW {
                 self.before = Some((self.number, step.record));
@@ -202,6 +204,21 @@ impl Reader<'_> {
         let text = record_text(&step.record);
         let (expected, got) = (answer_text(&expected), answer_text(&got));
         Err(format!("{head}{text}expected: {expected}\ngot:      {got}"))
+    }
+
+    /// An answer on which both agree must not contradict what the packet's bytes alone say.
+    fn check_form(&self, step: &Step) -> Result<(), String> {
+        if step.record.call != stream::PASS {
+            return Ok(());
+        }
+        match form::contradiction(&step.record.packet, step.answer[0]) {
+            None => Ok(()),
+            Some(wrong) => {
+                let place = format!("seed {}, record {}", self.seed, self.number);
+                let text = record_text(&step.record);
+                Err(format!("second: both against the packet's bytes, {place}\n{text}{wrong}"))
+            }
+        }
     }
 
     fn compare_tables(&mut self) -> Result<(), String> {

@@ -4,6 +4,7 @@
 mod calls;
 mod cases;
 mod compare;
+mod form;
 mod model;
 mod packets;
 mod random;

@@ -29,7 +29,7 @@ pub const COMPLETION_DATA: u8 = 0x4A;
 /// Bit 29 of word 0, which is bit 5 of the kind: the header has four words.
 const FOUR_WORDS: u32 = 0x2000_0000;
 
-/// A refusal's number, 1 to 12.
+/// A refusal's number: 1, 2, 4 to 12, or 31 to 36.
 pub type Refusal = u32;
 
 /// The header of a packet that came out.
@@ -178,24 +178,69 @@ fn route(
     }
 }
 
-/// The tests on the packet alone: 3 for its beginning, 4, the rest of 3.
+/// The tests on the packet alone, in their order; those from 33 on are for requests.
 fn check_packet(packet: &[u8], words: &[u32; 4]) -> Result<(), Refusal> {
-    if packet.len() < 12 {
-        return Err(3);
+    let request = is_request(kind(words));
+    let broken = [
+        (31, is_too_short(packet)),
+        (4, is_not_carried(words)),
+        (32, has_wrong_length(packet, words)),
+        (33, request && has_wrong_enables(words)),
+        (34, request && has_gaps(words)),
+        (35, request && crosses_page(words)),
+        (36, request && has_zero_high_word(words)),
+    ];
+    match broken.iter().find(|rule| rule.1) {
+        Some(&(refusal, _)) => Err(refusal),
+        None => Ok(()),
     }
-    let kind = kind(words);
+}
+
+/// 31: fewer than 12 bytes.
+fn is_too_short(packet: &[u8]) -> bool {
+    packet.len() < 12
+}
+
+/// 4: another kind, TD set, or AT other than 0.
+fn is_not_carried(words: &[u32; 4]) -> bool {
     let td = words[0] >> 15 & 1;
     let at = words[0] >> 10 & 3;
-    if !is_carried(kind) || td != 0 || at != 0 {
-        return Err(4);
+    !is_carried(kind(words)) || td != 0 || at != 0
+}
+
+/// 32: longer or shorter than header and data are together.
+fn has_wrong_length(packet: &[u8], words: &[u32; 4]) -> bool {
+    packet.len() != header_length(words) + data_length(words)
+}
+
+/// 33: last enables at Length 1, or no first or no last ones at a Length above 1.
+fn has_wrong_enables(words: &[u32; 4]) -> bool {
+    let (first, last) = enables(words);
+    if length(words) == 1 {
+        last != 0
+    } else {
+        first == 0 || last == 0
     }
-    if packet.len() != header_length(words) + data_length(words) {
-        return Err(3);
-    }
-    if is_request(kind) && !form_is_right(words) {
-        return Err(3);
-    }
-    Ok(())
+}
+
+/// 34: at a Length above 1, but not at two dwords from a multiple of 8 on, enables with gaps between
+/// the first byte and the last.
+fn has_gaps(words: &[u32; 4]) -> bool {
+    let (first, last) = enables(words);
+    let gaps_allowed = length(words) == 1 || length(words) == 2 && address(words) & 7 == 0;
+    let without_gaps = matches!(first, 0b1111 | 0b1110 | 0b1100 | 0b1000)
+        && matches!(last, 0b0001 | 0b0011 | 0b0111 | 0b1111);
+    !gaps_allowed && !without_gaps
+}
+
+/// 35: the request goes on beyond its page of 4 KiB.
+fn crosses_page(words: &[u32; 4]) -> bool {
+    (address(words) & 0xFFF) + 4 * u64::from(length(words)) > 4096
+}
+
+/// 36: a 64-bit header with a high word of 0.
+fn has_zero_high_word(words: &[u32; 4]) -> bool {
+    words[0] & FOUR_WORDS != 0 && words[2] == 0
 }
 
 /// A request goes by its window and its entry: 6, 5, 7, 8. The window is found before its choice
@@ -308,7 +353,7 @@ fn write(partition: usize, words: &[u32; 4], data: &[u8], out: &mut [u8]) -> Rec
 /// The bit of the log's status that belongs to a refusal.
 fn log_bit(refusal: Refusal) -> u32 {
     match refusal {
-        3 => 18,
+        31..=36 => 18,
         5 => 12,
         9 => 16,
         _ => 20,
@@ -414,26 +459,6 @@ fn address(words: &[u32; 4]) -> u64 {
     } else {
         u64::from(low)
     }
-}
-
-/// Whether a request's enables, its page and its high word are as they must be.
-fn form_is_right(words: &[u32; 4]) -> bool {
-    let (length, address) = (length(words), address(words));
-    let in_one_page = (address & 0xFFF) + 4 * u64::from(length) <= 4096;
-    let high_word_right = words[0] & FOUR_WORDS == 0 || words[2] != 0;
-    enables_are_right(length, address, enables(words)) && in_one_page && high_word_right
-}
-
-/// Whether the first and the last enables fit the Length and the address.
-fn enables_are_right(length: u32, address: u64, (first, last): (u32, u32)) -> bool {
-    if length == 1 {
-        return last == 0;
-    }
-    if length == 2 && address & 7 == 0 {
-        return first != 0 && last != 0;
-    }
-    matches!(first, 0b1111 | 0b1110 | 0b1100 | 0b1000)
-        && matches!(last, 0b0001 | 0b0011 | 0b0111 | 0b1111)
 }
 
 /// The place of the lowest enabled byte, 0 if there is none.

@@ -16,28 +16,56 @@ const KINDS: [u8; 22] = [
     0x00, 0x20, 0x40, 0x60, 0x0A, 0x4A, 0x80, 0xA0, 0xC0, 0xE0, 0x8A, 0xCA, 0x01, 0x21, 0x02, 0x42,
     0x0B, 0x4B, 0x2A, 0x6A, 0x34, 0x74,
 ];
+/// How many of them are carried: the first ones.
+const CARRIED: usize = 6;
+
+/// First enables without gaps up to the top, and with gaps.
+const FIRST: [u32; 4] = [15, 14, 12, 8];
+const FIRST_WITH_GAPS: [u32; 11] = [1, 2, 3, 4, 5, 6, 7, 9, 10, 11, 13];
+/// Last enables without gaps down to the bottom, and with gaps.
+const LAST: [u32; 4] = [15, 7, 3, 1];
+const LAST_WITH_GAPS: [u32; 11] = [2, 4, 5, 6, 8, 9, 10, 11, 12, 13, 14];
+
+/// Which rules of form a misshapen request is to break: 32 to 36.
+struct Breaks {
+    length: bool,
+    enables: bool,
+    contiguity: bool,
+    page: bool,
+    high_word: bool,
+}
 
 /// A packet and its sender.
 pub fn packet(random: &mut Random, bench: &Bench, came: &[Came]) -> (u32, Vec<u8>) {
-    let (mut from, mut packet) = match random.below(16) {
+    let (mut from, mut packet) = if random.one_in(8) {
+        misshapen(random, bench)
+    } else {
+        sound_or_spoiled(random, bench, came)
+    };
+    if random.one_in(5) {
+        mark(&mut packet);
+    }
+    if random.one_in(32) {
+        from = random.pick(&[0, 1, 7, 15, 16, 17, 255, 256, 0x1_0001, 0x8000_0000, 0xFFFF_FFFF]);
+    }
+    packet.truncate(LONGEST);
+    (from, packet)
+}
+
+/// A packet that has all it needs, or was spoiled after that, or is rubbish.
+fn sound_or_spoiled(random: &mut Random, bench: &Bench, came: &[Came]) -> (u32, Vec<u8>) {
+    let (from, mut packet) = match random.below(16) {
         0 => rubbish(random),
         1..=3 => completion(random, bench),
         4 | 5 => completion_for(random, bench, came),
         _ => request(random, bench),
     };
-    if random.one_in(6) {
-        mark(&mut packet);
-    }
     if random.one_in(3) {
         spoil(random, &mut packet);
         if random.one_in(4) {
             spoil(random, &mut packet);
         }
     }
-    if random.one_in(32) {
-        from = random.pick(&[0, 1, 7, 15, 16, 17, 255, 256, 0x1_0001, 0x8000_0000, 0xFFFF_FFFF]);
-    }
-    packet.truncate(LONGEST);
     (from, packet)
 }
 
@@ -104,24 +132,35 @@ fn aimed_at_row(random: &mut Random, bench: &Bench, p: usize, row: &Window) -> (
 /// A read or a write through a window of its sender's.
 fn request(random: &mut Random, bench: &Bench) -> (u32, Vec<u8>) {
     let p = sender(random, bench);
-    let address = match window(random, p, bench) {
+    let address = address_of(random, p, bench);
+    let id = requester(random, p, bench);
+    request_from(random, p, address, id)
+}
+
+/// An address that a request of this partition may have: mostly in a window, now and then beside one.
+fn address_of(random: &mut Random, p: usize, bench: &Bench) -> u64 {
+    match window(random, p, bench) {
         Some(window) if !random.one_in(32) => address_in(random, &window),
         Some(window) => address_beside(random, &window),
         None => random.draw() >> random.below(64),
-    };
-    let id = requester(random, p, bench);
-    request_from(random, p, address, id)
+    }
 }
 
 /// A read or a write at about this address, by this requester.
 fn request_from(random: &mut Random, p: usize, address: u64, id: u32) -> (u32, Vec<u8>) {
     let (address, length) = fitting(random, address & !3);
+    let enables = enables(random, length, address);
+    (p as u32, request_packet(random, address, length, enables, id))
+}
+
+/// A read or a write with this address, Length, enables and requester.
+fn request_packet(random: &mut Random, address: u64, length: u32, enables: u32, id: u32) -> Vec<u8> {
     let write = random.one_in(2);
     let four = address >> 32 != 0;
     let kind = (u32::from(write) << 6 | u32::from(four) << 5) << 24;
     let word_0 = kind | other_bits(random) | length & 0x3FF;
     let tag = random.word() & 0xFF00;
-    let word_1 = id << 16 | tag | enables(random, length, address);
+    let word_1 = id << 16 | tag | enables;
     let odd_bits = if random.one_in(4) { random.below(4) } else { 0 };
     let mut packet = Vec::new();
     push(&mut packet, word_0);
@@ -133,7 +172,135 @@ fn request_from(random: &mut Random, p: usize, address: u64, id: u32) -> (u32, V
     if write {
         random.bytes(4 * length as usize, &mut packet);
     }
+    packet
+}
+
+/// A read or a write that breaks some rules of form and no others, as far as that is possible; now
+/// and then it is not carried besides.
+fn misshapen(random: &mut Random, bench: &Bench) -> (u32, Vec<u8>) {
+    let p = sender(random, bench);
+    let address = address_of(random, p, bench) & !3;
+    let id = requester(random, p, bench);
+    let breaks = breaks(random);
+    let (address, length) =
+        if breaks.page { over_the_page(random, address) } else { in_the_page(random, address, &breaks) };
+    let enables = breaking_enables(random, length, &breaks);
+    let mut packet = request_packet(random, address, length, enables, id);
+    if breaks.high_word {
+        zero_high_word(&mut packet);
+    }
+    if breaks.length {
+        make_longer_or_shorter(random, &mut packet);
+    }
+    if random.one_in(6) {
+        make_not_carried(random, &mut packet);
+    }
     (p as u32, packet)
+}
+
+/// The rules that are to be broken: mostly one or two.
+fn breaks(random: &mut Random) -> Breaks {
+    let one = 1 << random.below(5);
+    let another = 1 << random.below(5);
+    let rules = match random.below(5) {
+        0 | 1 => one,
+        2 | 3 => one | another,
+        _ => random.below(32),
+    };
+    Breaks {
+        length: rules & 1 != 0,
+        enables: rules & 2 != 0,
+        contiguity: rules & 4 != 0,
+        page: rules & 8 != 0,
+        high_word: rules & 16 != 0,
+    }
+}
+
+/// An address in the same page and a Length that goes on beyond it, every other time by one dword.
+fn over_the_page(random: &mut Random, address: u64) -> (u64, u32) {
+    let length = match random.below(4) {
+        0 => 2,
+        1 => random.pick(&[1024, 1023, 512]),
+        _ => 3 + random.below(8),
+    };
+    let over = if random.one_in(2) { 1 } else { 1 + random.below(length - 1) };
+    let place = 4096 - 4 * (length - over);
+    (address & !0xFFF | u64::from(place), length)
+}
+
+/// An address in the same page and a Length that fits there: of one dword or two from a multiple of
+/// 8 on where the enables alone are to be wrong, and of others where gaps are.
+fn in_the_page(random: &mut Random, address: u64, breaks: &Breaks) -> (u64, u32) {
+    let length = match random.below(4) {
+        _ if breaks.enables && !breaks.contiguity => 1 + random.below(2),
+        0 => 2,
+        1 => random.pick(&[1024, 1023, 512]),
+        _ => 3 + random.below(8),
+    };
+    let (page, place) = (address & !0xFFF, address & 0xFFF);
+    let place = match length {
+        2 if breaks.contiguity => place.min(4084) & !7 | 4,
+        2 => place & !7,
+        _ => place.min(4096 - 4 * u64::from(length)),
+    };
+    (page | place, length)
+}
+
+/// Last and first enables that break the rules as far as they are to.
+fn breaking_enables(random: &mut Random, length: u32, breaks: &Breaks) -> u32 {
+    let (mut first, mut last) = (random.pick(&FIRST), random.pick(&LAST));
+    let (with_gaps, empty) = (1 + random.below(3), 1 + random.below(3));
+    if length == 1 {
+        first = random.below(16);
+        last = if breaks.enables { 1 + random.below(15) } else { 0 };
+        return last << 4 | first;
+    }
+    if breaks.contiguity && with_gaps & 1 != 0 {
+        first = random.pick(&FIRST_WITH_GAPS);
+    }
+    if breaks.contiguity && with_gaps & 2 != 0 {
+        last = random.pick(&LAST_WITH_GAPS);
+    }
+    if breaks.enables && empty & 1 != 0 {
+        first = 0;
+    }
+    if breaks.enables && empty & 2 != 0 {
+        last = 0;
+    }
+    last << 4 | first
+}
+
+/// Gives a packet another length, but not less than 12 bytes.
+fn make_longer_or_shorter(random: &mut Random, packet: &mut Vec<u8>) {
+    let by = random.pick(&[1, 1, 2, 3, 4, 8]);
+    let shorter = packet.len().saturating_sub(by);
+    if shorter >= 12 && random.one_in(2) {
+        packet.truncate(shorter);
+    } else {
+        random.bytes(by, packet);
+    }
+}
+
+/// Gives a packet what is not carried: a kind, TD or AT.
+fn make_not_carried(random: &mut Random, packet: &mut [u8]) {
+    match random.below(3) {
+        0 => change(packet, 0, |_| random.pick(&KINDS[CARRIED..])),
+        1 => change(packet, 2, |byte| byte | 0x80),
+        _ => change(packet, 2, |byte| byte | random.pick(&[4, 8, 12])),
+    }
+}
+
+/// Cuts a packet's beginning off, mostly too short, which every other time is not carried either.
+fn cut(random: &mut Random, packet: &mut Vec<u8>) {
+    if random.one_in(2) {
+        make_not_carried(random, packet);
+    }
+    let kept = match random.below(3) {
+        0 => 11,
+        1 => random.below(12),
+        _ => random.below(16),
+    };
+    packet.truncate(kept as usize);
 }
 
 /// A row of a partition's taken as a window, whether or not it is in force.
@@ -250,7 +417,7 @@ fn other_bits(random: &mut Random) -> u32 {
 fn requester(random: &mut Random, p: usize, bench: &Bench) -> u32 {
     let entries = &bench.numbers[4 * p..4 * p + 4];
     let held: Vec<u32> = entries.iter().filter_map(|&word| model::look_entry(word)).collect();
-    if held.is_empty() || random.one_in(24) {
+    if held.is_empty() || random.one_in(20) {
         random.pick(&[0x0300, 0x0301, 0, 0xFFFF])
     } else {
         random.pick(&held)
@@ -337,7 +504,7 @@ fn spoil(random: &mut Random, packet: &mut Vec<u8>) {
     let bit = 1u8 << random.below(8);
     let any = random.word() as u8;
     match random.below(16) {
-        0 => packet.truncate(random.below(16) as usize),
+        0 => cut(random, packet),
         1 => packet.truncate(kept),
         2 => random.bytes(1 + (any & 7) as usize, packet),
         3 => change(packet, 2, |byte| byte | 0x80),

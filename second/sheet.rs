@@ -102,7 +102,7 @@ fn cases_to_g() -> Vec<Case> {
         crossing("B", 0, &[0x4A00_0001, 0x0100_0004, 0x0146_0510, 0x1122_3344], b, &b_out),
         refused("C", 1, &[1, 0x0300_050F, 0x9010_0000], c, 20, &zero_address),
         crossing("D", 1, &[1, 0x0300_050F, 0x900F_FFFC], d, &d_out),
-        refused("E", 1, &[2, 0x0300_05FF, 0x900F_FFFC], "dropped 3", 18, &[]),
+        refused("E", 1, &[2, 0x0300_05FF, 0x900F_FFFC], "dropped 35", 18, &[]),
         refused("F", 1, &[1, 0x0301_050F, 0x9000_0010], f, 20, &other_requester),
         refused("G", 1, &[1, 0x0300_050F, 0xA000_0000], g, 20, &zero_address),
     ]
@@ -116,7 +116,7 @@ fn cases_to_k() -> Vec<Case> {
     let eleven = bytes(&[1, 0x0300_050F, 0x9000_0010])[..11].to_vec();
     let eleven_log = [0x0004_0000, 18, 1, 0x0300_050F, 0x9000_0000, 0];
     let none_log = [0x0004_0000, 18, 0, 0, 0, 0];
-    let k = |name, packet, log| Case { name, from: 1, packet, line: "dropped 3", log, out: vec![] };
+    let k = |name, packet, log| Case { name, from: 1, packet, line: "dropped 31", log, out: vec![] };
     vec![
         refused("H", 1, &h, "dropped 5", 12, &[]),
         refused("I", 0, &i, "dropped 9", 16, &[]),
@@ -142,7 +142,7 @@ fn cases_to_n() -> Vec<Case> {
         refused("L, Length 3", 1, &[3, 0x0301_0518, 0x9000_0010], three, 20, &three_out),
         refused("L, Length 1,024", 1, &[0, 0x0301_05FF, 0x9000_0000], most, 20, &most_out),
         crossing("M", 1, &[1, 0x0300_0500, 0x9000_0010], m, &m_out),
-        refused("N", 1, &[0x2000_0001, 0x0300_050F, 0, 0x9000_0010], "dropped 3", 18, &[]),
+        refused("N", 1, &[0x2000_0001, 0x0300_050F, 0, 0x9000_0010], "dropped 36", 18, &[]),
     ]
 }
 

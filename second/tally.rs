@@ -1,5 +1,6 @@
 //! How often each outcome, each crossing and each answer to a table call came up.
 
+use crate::form;
 use crate::model::{self, Outcome};
 use crate::stream::{self, Bench, Record};
 use std::collections::BTreeMap;
@@ -7,9 +8,12 @@ use std::collections::BTreeMap;
 /// A long run reaches every refusal and every crossing so often at least.
 const ENOUGH: u64 = 100;
 
-/// And each outcome of a flush or of a marked packet, each fit of a base or target, and each choice
-/// about marked packets, at least so often.
+/// And each outcome of a flush, of a marked packet or of a broken form, each case of form, each fit of
+/// a base or target, and each choice about marked packets, at least so often.
 const ENOUGH_OF_EACH: u64 = 25;
+
+/// The refusals, by number.
+const REFUSALS: [u32; 17] = [1, 2, 4, 5, 6, 7, 8, 9, 10, 11, 12, 31, 32, 33, 34, 35, 36];
 
 /// The crossings: the kind that went in and the kind that came out.
 const CROSSINGS: [(u8, u8); 10] = [
@@ -23,6 +27,14 @@ const FLUSHES: [(&str, &str, u32); 10] = [
     ("read", "answered", 7), ("read", "answered", 8), ("write", "crossed", 0),
     ("write", "dropped", 5), ("write", "dropped", 6), ("write", "dropped", 7),
     ("write", "dropped", 8),
+];
+
+/// What becomes of packets whose form is broken: by sort and number.
+const BROKEN: [&str; 14] = [
+    "read dropped 31", "read dropped 32", "read dropped 33", "read dropped 34", "read dropped 35",
+    "read dropped 36", "write dropped 31", "write dropped 32", "write dropped 33",
+    "write dropped 34", "write dropped 35", "write dropped 36", "completion dropped 31",
+    "completion dropped 32",
 ];
 
 /// What becomes of marked packets, which have EP set, where the tables decide: by sort, outcome and number.
@@ -162,6 +174,8 @@ pub struct Tally {
     outcomes: BTreeMap<(&'static str, u32), u64>,
     crossings: BTreeMap<(u8, u8), u64>,
     flushes: BTreeMap<(&'static str, &'static str, u32), u64>,
+    broken: BTreeMap<String, u64>,
+    forms: BTreeMap<String, u64>,
     marked: BTreeMap<String, u64>,
     special: BTreeMap<&'static str, u64>,
     fits: BTreeMap<(&'static str, &'static str, u32), u64>,
@@ -197,8 +211,19 @@ impl Tally {
         if let Some(kind) = flush(&record.packet) {
             count(&mut self.flushes, (kind, name, number));
         }
+        self.note_form(&record.packet, name, number);
         if number == 0 || (5..=9).contains(&number) {
             self.note_decided(record, name, number, bench);
+        }
+    }
+
+    /// Counts the cases of form that a packet is, and its sort if a rule of form refused it.
+    fn note_form(&mut self, packet: &[u8], name: &str, number: u32) {
+        for case in form::cases(packet, number) {
+            count(&mut self.forms, case);
+        }
+        if let (31..=36, Some(sort)) = (number, sort(packet)) {
+            count(&mut self.broken, format!("{sort} {}", numbered(name, number)));
         }
     }
 
@@ -239,6 +264,8 @@ impl Tally {
         list(&mut text, "crossings", 24, self.crossings.iter().map(|(&key, &count)| (crossing(key), count)));
         let flush = |(kind, name, number)| format!("{kind} {}", numbered(name, number));
         list(&mut text, "flushes", 24, self.flushes.iter().map(|(&key, &count)| (flush(key), count)));
+        let broken = self.broken.iter().map(|(key, &count)| (key.clone(), count));
+        list(&mut text, "broken forms", 48, broken.chain(self.wanted_forms()));
         let marked = self.marked.iter().map(|(key, &count)| (key.clone(), count));
         let special = self.special.iter().map(|(&key, &count)| (String::from(key), count));
         list(&mut text, "marked packets", 48, marked.chain(special));
@@ -258,7 +285,7 @@ impl Tally {
                 rare.push(format!("{name} ({count} times)"));
             }
         };
-        for refusal in 1..=12 {
+        for refusal in REFUSALS {
             want(format!("refusal {refusal}"), Some(&self.refused(refusal)), ENOUGH);
         }
         for kinds in CROSSINGS {
@@ -268,6 +295,12 @@ impl Tally {
         for flush in FLUSHES {
             let name = format!("flush {} {}", flush.0, numbered(flush.1, flush.2));
             want(name, self.flushes.get(&flush), ENOUGH_OF_EACH);
+        }
+        for name in BROKEN {
+            want(format!("broken {name}"), self.broken.get(name), ENOUGH_OF_EACH);
+        }
+        for (name, count) in self.wanted_forms() {
+            want(name, Some(&count), ENOUGH_OF_EACH);
         }
         for name in MARKED {
             want(format!("marked {name}"), self.marked.get(name), ENOUGH_OF_EACH);
@@ -282,6 +315,14 @@ impl Tally {
             want(format!("choice {choice}"), self.choices.get(choice), ENOUGH_OF_EACH);
         }
         rare
+    }
+
+    /// How often each case of form came up that a run must reach.
+    fn wanted_forms(&self) -> impl Iterator<Item = (String, u64)> + '_ {
+        form::wanted().into_iter().map(move |name| {
+            let count = self.forms.get(&name).copied().unwrap_or(0);
+            (name, count)
+        })
     }
 
     /// How often a refusal was given, to packets and to other calls.

@@ -108,6 +108,30 @@ pub fn all_marked() -> Case {
     Case { name: "marked packets", tables: t, packets: packets.into_iter().map(marked).collect() }
 }
 
+/// Packets of every kind and of 0 to 24 bytes; then reads, by both headers, with all enables, of few dwords and of many, at the
+/// edges of a page.
+fn broken() -> Vec<(u32, Vec<u8>)> {
+    let mut packets = Vec::new();
+    for kind in 0..256 {
+        let whole = bytes(&[kind << 24 | 1, 0x0300_051F, 0x9000_0010, 0x9000_0010, 0, 0], 0);
+        packets.extend((0..=whole.len()).map(|n| (1, whole[..n].to_vec())));
+    }
+    for enables in 0..256 {
+        for length in [0, 1, 2, 3] {
+            for address in [0x9000_0000, 0x9000_0014, 0x9000_0FF8, 0x9000_0FFC] {
+                packets.push((1, bytes(&[length, 0x0300_0500 | enables, address], 0)));
+                packets.push((1, bytes(&[0x2000_0000 | length, 0x0300_0500 | enables, 0, address], 0)));
+            }
+        }
+    }
+    packets
+}
+
+/// Packets of which most break rules of form, each over logs of its own. On these there must be agreement, and they are not measured.
+pub fn all_broken() -> impl Iterator<Item = Case> {
+    broken().into_iter().map(|packet| Case { name: "broken packets", tables: with_slot(0), packets: vec![packet] })
+}
+
 /// Every case of the table.
 pub fn all() -> Vec<Case> {
     let case = |name, tables, packets| Case { name, tables, packets };

@@ -1,7 +1,8 @@
 //! Nanoseconds a packet: the proved library, the second program's passing function, and plain C, on the same packets and the
 //! same tables in one run; and memcpy of 4,096 bytes. Median of 15 rounds, in each of which every one of them has its turn.
 //! Under `--cfg before` the proved library of another checkout is one more of them, its names with `before_` in front; under
-//! `--cfg before_unmarked` too, that library sets windows without the choice whether marked packets may pass.
+//! `--cfg before_unmarked` too, that library sets windows without the choice whether marked packets may pass; with
+//! `--cfg before_unnamed`, it has one number for all rules of form.
 
 #[path = "../second/model.rs"]
 #[allow(dead_code)]
@@ -224,20 +225,28 @@ fn set_window() -> Vec<f64> {
     medians(cases::full(), &runs)
 }
 
-/// One of the others: its name, how it passes a packet and sets a window, and whether it has windows for marked packets.
+/// One of the others: its name, how it passes a packet and sets a window, whether it has windows for marked packets, and
+/// whether it has a number for each rule of form.
 struct Other {
     name: &'static str,
     pass: fn(u32, &[u8], &mut Tables) -> u32,
     set: fn(u64, bool, &mut [u64]) -> u32,
     has_marked: bool,
+    has_rules: bool,
 }
 
 /// Those with which the proved library must agree before all are measured.
 const OTHERS: &[Other] = &[
-    Other { name: "Rust", pass: second, set: second_set, has_marked: true },
-    Other { name: "C", pass: plain, set: plain_set, has_marked: true },
+    Other { name: "Rust", pass: second, set: second_set, has_marked: true, has_rules: true },
+    Other { name: "C", pass: plain, set: plain_set, has_marked: true, has_rules: true },
     #[cfg(before)]
-    Other { name: "before", pass: before, set: before_set, has_marked: cfg!(not(before_unmarked)) },
+    Other {
+        name: "before",
+        pass: before,
+        set: before_set,
+        has_marked: cfg!(not(before_unmarked)),
+        has_rules: cfg!(not(before_unnamed)),
+    },
 ];
 
 /// Whether another agrees on every packet of a case.
@@ -282,8 +291,18 @@ fn agree_on_marked() {
     }
 }
 
+/// Ends, where another that has a number for each rule of form does not agree on a broken packet.
+fn agree_on_broken() {
+    for case in cases::all_broken() {
+        if let Some(other) = OTHERS.iter().find(|other| other.has_rules && !agrees(&case, other)) {
+            differ(other, case.name);
+        }
+    }
+}
+
 fn main() {
     agree_on_marked();
+    agree_on_broken();
     print!("{:<34}{:>9}{:>9}{:>9}{:>12}", "ns a packet, median of 15", "proved", "Rust", "C", "to faster");
     println!("{}", if cfg!(before) { "   before  to before" } else { "" });
     for case in cases::all() {

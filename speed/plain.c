@@ -88,31 +88,31 @@ static uint64_t address(const struct header *h) {
     return has_four(h) ? (uint64_t)h->w[2] << 32 | (h->w[3] & ~3u) : h->w[2] & ~3u;
 }
 
-/* Refusal 3 for a request, or 0. */
+/* The first of refusals 33 to 36 that a request gets, or 0. */
 static uint32_t request_form(const struct header *h) {
     uint32_t first = h->w[1] & 15, last = h->w[1] >> 4 & 15, length = dwords(h);
     uint64_t a = address(h);
     if (length == 1 ? last != 0 : first == 0 || last == 0)
-        return 3;
+        return 33;
     if (length != 1 && !(length == 2 && a % 8 == 0)) {
         if (!(first == 15 || first == 14 || first == 12 || first == 8))
-            return 3;
+            return 34;
         if (!(last == 1 || last == 3 || last == 7 || last == 15))
-            return 3;
+            return 34;
     }
     if ((a & 4095) + 4 * length > 4096)
-        return 3;
-    return has_four(h) && h->w[2] == 0 ? 3 : 0;
+        return 35;
+    return has_four(h) && h->w[2] == 0 ? 36 : 0;
 }
 
-/* Refusals 3 and 4, or 0. */
+/* The first of refusals 31, 4 and 32 to 36 that a packet gets, or 0. */
 static uint32_t form(const struct header *h, size_t n) {
     if (n < 12)
-        return 3;
+        return 31;
     if (!(is_read(h) || kind(h) == 0x40 || kind(h) == 0x60 || is_completion(h)) || h->w[0] & 0x8000 || h->w[0] & 0x0C00)
         return 4;
     if (n != total_bytes(h))
-        return 3;
+        return 32;
     return is_completion(h) ? 0 : request_form(h);
 }
 
@@ -201,7 +201,7 @@ static void record(uint32_t *row, unsigned bit, const struct header *h) {
 }
 
 static unsigned log_bit(uint32_t refusal) {
-    return refusal == 3 ? 18 : refusal == 5 ? 12 : refusal == 9 ? 16 : 20;
+    return refusal > 30 ? 18 : refusal == 5 ? 12 : refusal == 9 ? 16 : 20;
 }
 
 static uint32_t drop(uint32_t refusal, const struct header *h, uint32_t *row, uint32_t *answer) {

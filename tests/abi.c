@@ -23,21 +23,29 @@ static void expect(const char *name, int holds)
     }
 }
 
-/* The logs, the answer from one of its words on, and Out from one of its bytes on, are all this byte. */
-static int all_are(int byte, size_t answer_from, size_t out_from)
+/* The answer from one of its words on, and Out from one of its bytes on, are all this byte. */
+static int rest_is(int byte, size_t answer_from, size_t out_from)
 {
-    const unsigned char *of_logs = (const unsigned char *)logs, *of_answer = (const unsigned char *)answer;
+    const unsigned char *of_answer = (const unsigned char *)answer;
     size_t i;
     for (i = out_from; i < sizeof out; i++) {
         if (out[i] != byte) return 0;
-    }
-    for (i = 0; i < sizeof logs; i++) {
-        if (of_logs[i] != byte) return 0;
     }
     for (i = 4 * answer_from; i < sizeof answer; i++) {
         if (of_answer[i] != byte) return 0;
     }
     return 1;
+}
+
+/* And the logs too. */
+static int all_are(int byte, size_t answer_from, size_t out_from)
+{
+    const unsigned char *of_logs = (const unsigned char *)logs;
+    size_t i;
+    for (i = 0; i < sizeof logs; i++) {
+        if (of_logs[i] != byte) return 0;
+    }
+    return rest_is(byte, answer_from, out_from);
 }
 
 /* The first eight words of the answer. */
@@ -50,13 +58,19 @@ static int answer_is(const uint32_t *words)
     return 1;
 }
 
-static uint32_t pass(uint32_t p, const uint8_t *packet, size_t length, size_t out_length, size_t answer_length)
+/* Passes a packet; the logs are all this byte before. */
+static uint32_t pass_over(int byte, uint32_t p, const uint8_t *packet, size_t n, size_t out_length, size_t answer_length)
 {
-    memset(logs, 0xAA, sizeof logs);
+    memset(logs, byte, sizeof logs);
     memset(out, 0xAA, sizeof out);
     memset(answer, 0xAA, sizeof answer);
-    return siphon_pass(p, packet, length, windows, SIPHON_WINDOWS, numbers, SIPHON_NUMBERS, logs, SIPHON_LOGS, out, out_length,
+    return siphon_pass(p, packet, n, windows, SIPHON_WINDOWS, numbers, SIPHON_NUMBERS, logs, SIPHON_LOGS, out, out_length,
                        answer, answer_length);
+}
+
+static uint32_t pass(uint32_t p, const uint8_t *packet, size_t length, size_t out_length, size_t answer_length)
+{
+    return pass_over(0xAA, p, packet, length, out_length, answer_length);
 }
 
 /* Partition 1's window in slot 0. */
@@ -112,13 +126,14 @@ static void number_calls(void)
     expect("numbers too long", siphon_make_inactive(3, numbers, SIPHON_NUMBERS + 1) == SIPHON_WRONG_CALL);
 }
 
+static const uint32_t dropped[] = {SIPHON_DROPPED, 0, 0, 0, 0, 0, 0, 0};
+
 static void passing(void)
 {
     static const uint8_t read[] = {0, 0, 0, 1, 3, 0, 5, 0x0F, 0x90, 0, 0, 0x10};
     static const uint8_t far_read[] = {0, 0, 0, 1, 3, 0, 5, 0x0F, 0xA0, 0, 0, 0x10};
     static const uint32_t crossed[] = {SIPHON_CROSSED, 0, 16, 4, 0x20000001, 0x0146050F, 0x00000001, 0x40000010};
     static const uint32_t answered[] = {SIPHON_ANSWERED, 1, 12, 3, 0x0A000000, 0x02002004, 0x03000510, 0};
-    static const uint32_t dropped[] = {SIPHON_DROPPED, 0, 0, 0, 0, 0, 0, 0};
     expect("a read crosses", pass(1, read, 12, sizeof out, 10) == 0);
     expect("its answer", answer_is(crossed));
     expect("its bytes", out[0] == 0x20 && out[4] == 0x01 && out[5] == 0x46 && out[12] == 0x40 && out[15] == 0x10);
@@ -131,7 +146,87 @@ static void passing(void)
     expect("no such sender", pass(16, read, 12, sizeof out, 10) == SIPHON_WRONG_CALL && answer_is(dropped) && all_are(0xAA, 8, 0));
     expect("a short Out", pass(1, read, 12, SIPHON_OUT - 1, 8) == SIPHON_WRONG_CALL && answer_is(dropped) && all_are(0xAA, 8, 0));
     expect("a short answer", pass(1, read, 12, sizeof out, 7) == SIPHON_WRONG_CALL && all_are(0xAA, 0, 0));
-    expect("no packet", pass(1, 0, 0, SIPHON_OUT, 8) == SIPHON_FORM && answer_is(dropped));
+    expect("no packet", pass(1, 0, 0, SIPHON_OUT, 8) == SIPHON_TOO_SHORT && answer_is(dropped));
+}
+
+/* A packet from partition 1 that is dropped: its name, its refusal with its log bit, and how many bytes it has. */
+struct refused {
+    const char *name;
+    uint32_t number;
+    uint32_t bit;
+    size_t length;
+    uint32_t words[5];
+};
+
+/* The rules of form in their order: a packet that breaks a rule and the next one, then the same with the first of the two
+   mended, which breaks the other alone; then each rule by itself in other ways, and packets that break none. */
+static const struct refused of_form[] = {
+    {"31 before 4", SIPHON_TOO_SHORT, 18, 11, {0x01000001, 0x0300050F, 0x90000000}},
+    {"4", SIPHON_NOT_CARRIED, 20, 12, {0x01000001, 0x0300050F, 0x90000000}},
+    {"4 before 32", SIPHON_NOT_CARRIED, 20, 16, {0x01000001, 0x0300050F, 0x90000010, 0x11223344}},
+    {"32", SIPHON_WRONG_LENGTH, 18, 16, {0x00000001, 0x0300050F, 0x90000010, 0x11223344}},
+    {"32 before 33", SIPHON_WRONG_LENGTH, 18, 16, {0x00000001, 0x0300051F, 0x90000010, 0x11223344}},
+    {"33", SIPHON_ENABLES, 18, 12, {0x00000001, 0x0300051F, 0x90000010}},
+    {"33 before 34", SIPHON_ENABLES, 18, 12, {0x00000002, 0x030005F0, 0x90000014}},
+    {"34", SIPHON_CONTIGUITY, 18, 12, {0x00000002, 0x030005F5, 0x90000014}},
+    {"34 before 35", SIPHON_CONTIGUITY, 18, 12, {0x00000002, 0x030005F5, 0x90000FFC}},
+    {"35", SIPHON_PAGE_CROSSING, 18, 12, {0x00000002, 0x030005FF, 0x90000FFC}},
+    {"35 before 36", SIPHON_PAGE_CROSSING, 18, 16, {0x20000002, 0x030005FF, 0x00000000, 0x90000FFC}},
+    {"36", SIPHON_ZERO_HIGH_WORD, 18, 16, {0x20000002, 0x030005FF, 0x00000000, 0x90000FF8}},
+    {"36 before 6", SIPHON_ZERO_HIGH_WORD, 18, 20, {0x60000001, 0x0300050F, 0x00000000, 0xB0000010, 0x11223344}},
+    {"31, a read", SIPHON_TOO_SHORT, 18, 11, {0x00000001, 0x0300050F, 0x90000000}},
+    {"31, a completion", SIPHON_TOO_SHORT, 18, 11, {0x0A000000, 0x01000004, 0x01470500}},
+    {"32, a header cut off", SIPHON_WRONG_LENGTH, 18, 14, {0x20000001, 0x0300050F, 0x00000001, 0x40000000}},
+    {"32, a write with a word too few", SIPHON_WRONG_LENGTH, 18, 16, {0x40000002, 0x030005FF, 0x90000010, 0x11223344}},
+    {"32, a completion with a byte too many", SIPHON_WRONG_LENGTH, 18, 13, {0x0A000000, 0x01000004, 0x01470510}},
+    {"33, first enables of two dwords", SIPHON_ENABLES, 18, 12, {0x00000002, 0x030005F0, 0x90000010}},
+    {"33, last enables of two dwords", SIPHON_ENABLES, 18, 12, {0x00000002, 0x0300050F, 0x90000010}},
+    {"33, last enables at a flush", SIPHON_ENABLES, 18, 12, {0x00000001, 0x03000510, 0x90000010}},
+    {"34, last enables", SIPHON_CONTIGUITY, 18, 12, {0x00000003, 0x030005CF, 0x90000010}},
+    {"34, three dwords at a multiple of 8", SIPHON_CONTIGUITY, 18, 12, {0x00000003, 0x030005F7, 0x90000010}},
+    {"35, 4,096 bytes", SIPHON_PAGE_CROSSING, 18, 12, {0x00000000, 0x030005FF, 0x90000004}},
+    {"none, a flush", SIPHON_NO_WINDOW, 20, 16, {0x40000001, 0x03000500, 0xB0000010, 0x11223344}},
+    {"none, gaps at a multiple of 8", SIPHON_NO_WINDOW, 20, 20, {0x40000002, 0x030005A5, 0xB0000010, 0x11223344, 0x5566}},
+    {"none, no gap", SIPHON_NO_WINDOW, 20, 20, {0x40000002, 0x03000518, 0xB0000014, 0x11223344, 0x55667788}},
+    {"none, up to the page's end", SIPHON_NO_WINDOW, 20, 20, {0x40000002, 0x030005FF, 0xB0000FF8, 0x11223344, 0x55667788}},
+    {"none, a high word of 1", SIPHON_NO_WINDOW, 20, 20, {0x60000001, 0x0300050F, 0x00000001, 0xB0000010, 0x11223344}},
+    {"none, a completion", SIPHON_NOT_PASSABLE, 16, 20, {0x4A000002, 0x01000010, 0x01470FFC, 0x11223344, 0x55667788}},
+};
+
+/* Only this packet is logged: the fourth word of its header where it has one, and no data. */
+static int is_logged(const struct refused *r)
+{
+    size_t i;
+    for (i = 0; i < SIPHON_LOGS; i++) {
+        uint32_t wanted = 0;
+        if (i == 6) wanted = (uint32_t)1 << r->bit;
+        if (i == 7) wanted = r->bit;
+        if (i >= 8 && i < 11) wanted = r->words[i - 8];
+        if (i == 11 && (r->words[0] & 0x20000000) != 0) wanted = r->words[3];
+        if (logs[i] != wanted) return 0;
+    }
+    return 1;
+}
+
+static void forms(void)
+{
+    uint8_t packet[21];
+    size_t n, i;
+    for (n = 0; n < sizeof of_form / sizeof *of_form; n++) {
+        const struct refused *r = of_form + n;
+        uint32_t number;
+        int before = failed;
+        memset(packet, 0xFF, sizeof packet);
+        for (i = 0; i < r->length; i++) {
+            packet[i] = (uint8_t)(r->words[i / 4] >> (24 - 8 * (i % 4)));
+        }
+        number = pass_over(0, 1, packet, r->length, sizeof out, 10);
+        expect("its number", number == r->number);
+        expect("it is dropped", answer_is(dropped));
+        expect("Out and the words behind the answer stay", rest_is(0xAA, 8, 0));
+        expect("its row of the log, and no other", is_logged(r));
+        if (failed != before) printf("of the packet '%s', which got %lu\n", r->name, (unsigned long)number);
+    }
 }
 
 /* Marked packets, and the answers to them. */
@@ -142,7 +237,6 @@ static const uint8_t marked_strange_write[] = {0x40, 0, 0x40, 1, 3, 1, 5, 0x0F, 
 static const uint8_t marked_completion[] = {0x4A, 0, 0x40, 1, 1, 0, 0, 4, 1, 0x46, 5, 0x10, 1, 2, 3, 4};
 static const uint8_t marked_stray[] = {0x4A, 0, 0x40, 1, 1, 0, 0, 4, 1, 0x47, 5, 0x10, 1, 2, 3, 4};
 static const uint32_t marked_answered[] = {SIPHON_ANSWERED, 1, 12, 3, 0x0A000000, 0x02002004, 0x03000510, 0};
-static const uint32_t marked_dropped[] = {SIPHON_DROPPED, 0, 0, 0, 0, 0, 0, 0};
 static const uint32_t read_crossed[] = {SIPHON_CROSSED, 0, 16, 4, 0x20004001, 0x0146050F, 0x00000001, 0x40000010};
 static const uint32_t write_crossed[] = {SIPHON_CROSSED, 0, 20, 4, 0x60004001, 0x0146050F, 0x00000001, 0x40000010};
 static const uint32_t came_back[] = {SIPHON_CROSSED, 1, 16, 3, 0x4A004001, 0x02000004, 0x03000510, 0};
@@ -151,7 +245,7 @@ static const uint32_t came_back[] = {SIPHON_CROSSED, 1, 16, 3, 0x4A004001, 0x020
 static void marked_refused(void)
 {
     expect("a marked write is refused", pass(1, marked_write, 16, sizeof out, 10) == SIPHON_POISONED
-           && answer_is(marked_dropped));
+           && answer_is(dropped));
     expect("and logged as poisoned", logs[6] == (0xAAAAAAAA | 1u << SIPHON_LOG_POISONED));
     expect("a marked read is answered", pass(1, marked_read, 12, sizeof out, 10) == SIPHON_POISONED
            && answer_is(marked_answered));
@@ -159,9 +253,9 @@ static void marked_refused(void)
     expect("6 comes before 5", pass(1, marked_far_read, 12, sizeof out, 10) == SIPHON_NO_WINDOW && answer_is(marked_answered));
     expect("and is logged as 6", logs[6] == (0xAAAAAAAA | 1u << SIPHON_LOG_UNSUPPORTED));
     expect("a marked completion is refused", pass(0, marked_completion, 16, sizeof out, 10) == SIPHON_POISONED
-           && answer_is(marked_dropped));
+           && answer_is(dropped));
     expect("and logged in its sender's row", logs[0] == (0xAAAAAAAA | 1u << SIPHON_LOG_POISONED) && logs[6] == 0xAAAAAAAA);
-    expect("9 comes before 5", pass(0, marked_stray, 16, sizeof out, 10) == SIPHON_NOT_PASSABLE && answer_is(marked_dropped));
+    expect("9 comes before 5", pass(0, marked_stray, 16, sizeof out, 10) == SIPHON_NOT_PASSABLE && answer_is(dropped));
     expect("and is logged as 9", logs[0] == (0xAAAAAAAA | 1u << SIPHON_LOG_UNEXPECTED_COMPLETION));
 }
 
@@ -201,6 +295,7 @@ int main(void)
     marked_windows();
     number_calls();
     passing();
+    forms();
     marked_refused();
     marked_crossing();
     marked_in_two_slots();

@@ -24,7 +24,7 @@ both() {
 }
 
 both examples/c/lesson.c examples/c/lesson.stdout
-echo '68 passed, 0 failed' >"$work/wanted"
+echo '188 passed, 0 failed' >"$work/wanted"
 both tests/abi.c "$work/wanted"
 
 # a program in a folder with a blank in its name

@@ -82,6 +82,7 @@ constant_of() {
 
 constants_of_source() {
     numbers_of SIPHON crates/switch/src/answer.rt
+    numbers_of SIPHON crates/tlp/src/form.rt
     numbers_of SIPHON crates/tables/src/lib.rt
     numbers_of SIPHON_LOG crates/logs/src/lib.rt
     constant_of SIPHON_WINDOWS crates/windows/src/row.rt LENGTH
@@ -113,7 +114,7 @@ agree() {
 } | sort -u >"$work/source"
 
 expect 'the sources have eight calls' [ "$(grep -c '^uint32_t siphon_' "$work/source")" -eq 8 ]
-expect 'and twenty-five constants' [ "$(grep -c '^SIPHON_' "$work/source")" -eq 25 ]
+expect 'and thirty constants' [ "$(grep -c '^SIPHON_' "$work/source")" -eq 30 ]
 expect 'no type is unknown' [ "$(grep -c unknown "$work/source")" -eq 0 ]
 if agree "$header"; then told=; else told=$(cat "$work/told"); fi
 expect "$header agrees with the sources: $told" [ -z "$told" ]
@@ -138,6 +139,8 @@ wrong 'another result' 's/^uint32_t siphon_set_bus/int siphon_set_bus/' '< int s
 wrong 'a call missing' '/^uint32_t siphon_make_inactive/d' '> uint32_t siphon_make_inactive('
 wrong 'a call too many' '/^uint32_t siphon_free_entry/{h;s/siphon_free_entry/siphon_more/;p;g;}' '< uint32_t siphon_more('
 wrong 'a refusal of another number' 's/SIPHON_OVERLAP 11/SIPHON_OVERLAP 12/' '< SIPHON_OVERLAP 12'
+wrong 'two numbers of form swapped' 's/SIPHON_ENABLES 33/SIPHON_ENABLES 34/;s/SIPHON_CONTIGUITY 34/SIPHON_CONTIGUITY 33/' \
+    '< SIPHON_ENABLES 34'
 wrong 'a table of another length' 's/SIPHON_OUT 4112/SIPHON_OUT 4108/' '> SIPHON_OUT 4112'
 wrong 'another log bit' 's/SIPHON_LOG_MALFORMED 18/SIPHON_LOG_MALFORMED 19/' '< SIPHON_LOG_MALFORMED 19'
 wrong 'outcomes swapped' 's/SIPHON_DROPPED 2/SIPHON_DROPPED 1/' '< SIPHON_DROPPED 1'

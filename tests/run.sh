@@ -44,19 +44,36 @@ prints C 'answered 6 12 0A000000 02002004 03000500' C
 prints H 'dropped 5' H
 prints M 'crossed 0 16 20000001 01460500 00000001 40000010' M
 prints 'M, a write' 'crossed 0 20 60000001 01460500 00000001 40000010' 40000001 03000500 90000010 11223344
-prints 'M with last enables 0001' 'dropped 3' 00000001 03000510 90000010
+prints 'M with last enables 0001' 'dropped 33' 00000001 03000510 90000010
 prints 'M refused 5' 'answered 5 12 0A000000 02002001 03000510' 00004001 03000500 90000010
 prints 'M refused 6' 'answered 6 12 0A000000 02002001 0300057C' 00000001 03000500 9010007C
 prints 'M refused 7' 'answered 7 12 0A000000 02002001 03010510' 00000001 03010500 90000010
 prints 'M refused 8' 'answered 8 12 0A000000 02002001 03000500' 00000001 03000500 A0000000
 prints 'a small letter' 'dropped 9' j
 prints 'words in hex' 'crossed 0 16 20000001 0146050F 00000001 40000010' 00000001 0300050f 90000010
-prints 'a short last word' 'dropped 3' 00000001 0300050F 900000
+prints 'a short last word' 'dropped 31' 00000001 0300050F 900000
 prints 'a sender' 'crossed 1 16 4A000001 02000004 03000510' --from 0 4A000001 01000004 01460510 11223344
 prints 'a sender that there is not' 'dropped 1' --from 16 A
 prints 'a file' 'crossed 0 16 20000001 0146050F 00000001 40000010' crates/bench/stdin
 prints 'standard input' 'crossed 0 16 20000001 0146050F 00000001 40000010' - <crates/bench/stdin
-prints 'no bytes' 'dropped 3' - </dev/null
+prints 'no bytes' 'dropped 31' - </dev/null
+
+# each rule of form by itself; E is 35 and N 36
+prints 'too short' 'dropped 31' 00000001 0300050F 9000
+prints 'not carried' 'dropped 4' 01000001 0300050F 90000010
+prints 'wrong total length' 'dropped 32' 00000001 0300050F 90000010 00000000
+prints 'enables' 'dropped 33' 00000002 0300050F 90000018
+prints 'contiguity' 'dropped 34' 00000003 030005F7 90000018
+prints '4 KiB crossing' 'dropped 35' E
+prints 'zero high word' 'dropped 36' N
+# two neighbours at once: the first gives its number
+prints '31 before 4' 'dropped 31' 01000001 0300050F 900000
+prints '4 before 32' 'dropped 4' 01000001 0300050F 90000010 00000000
+prints '32 before 33' 'dropped 32' 00000001 0300051F 90000010 00000000
+prints '33 before 34' 'dropped 33' 00000003 030005F0 90000018
+prints '34 before 35' 'dropped 34' 00000002 030005F7 900FFFFC
+prints '35 before 36' 'dropped 35' 20000002 030005FF 00000000 900FFFFC
+
 # bench sends from partition 1 alone
 for letter in B I J; do
     prints "$letter from 1" 'dropped 9' --from 1 "$letter"
@@ -87,8 +104,8 @@ head -c 4096 /dev/zero >"$work/data"
 expect 'the longest packet is refused for its window alone' [ "$(bench "$work/long-header" "$work/data")" = 'dropped 6' ]
 expect 'a write of 4,096 bytes crosses' [ "$(bench "$work/header" "$work/data")" = 'crossed 0 4112 60000000 014605FF 00000001 40000000' ]
 printf x >"$work/x"
-expect '4,113 bytes are refused' [ "$(bench "$work/long-header" "$work/data" "$work/x")" = 'dropped 3' ]
-expect 'more are cut and refused' [ "$(bench "$work/long-header" "$work/data" "$work/data")" = 'dropped 3' ]
+expect '4,113 bytes are refused' [ "$(bench "$work/long-header" "$work/data" "$work/x")" = 'dropped 32' ]
+expect 'more are cut and refused' [ "$(bench "$work/long-header" "$work/data" "$work/data")" = 'dropped 32' ]
 expect 'the other program names what it wants' \
     [ "$(tools/x86-64 target/bin/send 100 </dev/null)" = 'send: one word is wanted, the sender, as one or two decimal digits' ]
 expect 'also where there is none' \

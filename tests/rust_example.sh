@@ -88,7 +88,7 @@ agree() {
     tr '\n' ' ' <include/siphonpear.h | tr ';' '\n' | sed -n 's/  */ /g; s/.*\(uint32_t siphon_[a-z_]*(.*)\)$/\1/p'
     awk '$1 == "#define" && NF > 2 { print $2, $3 }' include/siphonpear.h
 } | sort >"$work/c"
-expect 'the header has eight calls and twenty-five constants' [ "$(wc -l <"$work/c")" -eq 33 ]
+expect 'the header has eight calls and thirty constants' [ "$(wc -l <"$work/c")" -eq 38 ]
 if agree "$wrapper"; then told=; else told=$(cat "$work/told"); fi
 expect "the wrapper agrees with the header: $told" [ -z "$told" ]
 
@@ -101,6 +101,7 @@ wrong() {
 wrong 'a parameter of another type' 's/id: u16, numbers/id: u32, numbers/'
 wrong 'two parameters swapped' 's/p: u32, ones: u32/ones: u32, p: u32/'
 wrong 'a refusal of another number' 's/Overlap = 11/Overlap = 12/'
+wrong 'two numbers of form swapped' 's/Enables = 33/Enables = 34/;s/Contiguity = 34/Contiguity = 33/'
 wrong 'an array of another length' 's/LOGS: usize = 96/LOGS: usize = 95/'
 
 # what tools/link-rust tells
@@ -123,7 +124,7 @@ expect 'no compiler: what is missing' grep -qF 'package rustc' "$work/log"
 
 # on x86-64: the calls, and the lesson
 made 'the tests with the library are linked' tools/link-rust "$work/linked" "$wrapper" --test
-tested "$work/linked" 16
+tested "$work/linked" 17
 lesson="$work/a folder/lesson"
 mkdir "$work/a folder"
 cp examples/rust/lesson.rs "$lesson.rs"

@@ -22,7 +22,7 @@ done
 zeros() {
     { printf '\0\0\0\1%38s'"$2" '' | tr ' ' '\0' && head -c "$1" /dev/zero; } | tools/x86-64 target/bin/replay | od -An -tx1 -N4 | tr -d ' '
 }
-expect 'a packet of 4,200 bytes is passed' [ "$(zeros 4200 '\020\150')" = 00000003 ]
+expect 'a packet of 4,200 bytes is passed' [ "$(zeros 4200 '\020\150')" = 00000020 ]
 expect 'a packet of 4,201 bytes ends the run' [ "$(zeros 4201 '\020\151')" = ffffffff ]
 
 expect 'guard builds' tools/link-c "$work/guard" tests/guard.c

@@ -1,7 +1,8 @@
 /* A lesson over the switch, from C: a window is open for student 15, a read crosses and its completion comes back; then a
-   marked breakdown, where the teacher's write with EP set reaches the dash of student 15 through the chosen window and is
-   refused at its neighbour, the window to student 14; then an examination, where the same read is refused and logged. Prints
-   each step; ends with 1 if a call returned another number. */
+   broken packet, a read of student 15 that runs past its page, where the refusal tells which rule it breaks; then a marked
+   breakdown, where the teacher's write with EP set reaches the dash of student 15 through the chosen window and is refused at
+   its neighbour, the window to student 14; then an examination, where the same read is refused and logged. Prints each step;
+   ends with 1 if a call returned another number. */
 #include <stdint.h>
 #include <stdio.h>
 #include <string.h>
@@ -129,6 +130,7 @@ int main(void)
 {
     static const uint32_t read[] = {0x00000001, 0x0300050F, 0x90000010};
     static const uint32_t completion[] = {0x4A000001, 0x01000004, 0x017C0510, 0x00000037};
+    static const uint32_t broken_read[] = {0x00000002, 0x030006FF, 0x90000FFC};
     static const uint32_t marked_write[] = {0x40004001, 0x0108020F, 0xC0F00020, 0x00000001};
     static const uint32_t marked_beside[] = {0x40004001, 0x0108020F, 0xC0E00020, 0x00000001};
     static const uint32_t marked_completion[] = {0x4A004001, 0x10000004, 0x10400320, 0x00000001};
@@ -140,6 +142,10 @@ int main(void)
     pass("its completion", TEACHER, completion, 4, SIPHON_DONE);
     print_log(STUDENT);
 
+    printf("A broken packet: student 15 reads two dwords, and the second lies in the next page of 4 KiB.\n");
+    pass("a broken read", STUDENT, broken_read, 3, SIPHON_PAGE_CROSSING);
+    print_log(STUDENT);
+
     printf("A marked breakdown: marked packets may pass from the teacher to student 15, and not to student 14.\n");
     open_window(TEACHER, 15, 0xC0F00000, 0x80000000, STUDENT, 1);
     open_window(TEACHER, 14, 0xC0E00000, 0x80000000, NEIGHBOUR, 0);
@@ -148,8 +154,9 @@ int main(void)
     pass("a marked completion", STUDENT, marked_completion, 4, SIPHON_DONE);
     print_log(TEACHER);
 
-    printf("An examination: the log is cleared, and all windows are shut.\n");
+    printf("An examination: both logs are cleared, and all windows are shut.\n");
     clear_log(TEACHER);
+    clear_log(STUDENT);
     shut_window(STUDENT, 0);
     shut_window(TEACHER, 15);
     shut_window(TEACHER, 14);

@@ -33,7 +33,6 @@ pub const DONE: u32 = 0;
 pub enum Refusal {
     WrongCall = 1,
     SenderInactive = 2,
-    Form = 3,
     NotCarried = 4,
     Poisoned = 5,
     NoWindow = 6,
@@ -43,13 +42,19 @@ pub enum Refusal {
     WindowValues = 10,
     Overlap = 11,
     Repetition = 12,
+    TooShort = 31,
+    WrongLength = 32,
+    Enables = 33,
+    Contiguity = 34,
+    PageCrossing = 35,
+    ZeroHighWord = 36,
 }
 
 impl Refusal {
-    pub const ALL: [Refusal; 12] = [
+    /// Every refusal, by rising numbers.
+    pub const ALL: [Refusal; 17] = [
         Refusal::WrongCall,
         Refusal::SenderInactive,
-        Refusal::Form,
         Refusal::NotCarried,
         Refusal::Poisoned,
         Refusal::NoWindow,
@@ -59,18 +64,24 @@ impl Refusal {
         Refusal::WindowValues,
         Refusal::Overlap,
         Refusal::Repetition,
+        Refusal::TooShort,
+        Refusal::WrongLength,
+        Refusal::Enables,
+        Refusal::Contiguity,
+        Refusal::PageCrossing,
+        Refusal::ZeroHighWord,
     ];
 
     pub fn number(self) -> u32 {
         self as u32
     }
 
-    /// None for 0 and for numbers above 12.
+    /// None for 0, and for every other number that no refusal has.
     pub fn from_number(number: u32) -> Option<Refusal> {
         Refusal::ALL.into_iter().find(|r| r.number() == number)
     }
 
-    /// What a table call returned. No proved call returns more than 12; such a number would not pass for done.
+    /// What a table call returned. No proved call returns a number that no refusal has; such a one would not pass for done.
     pub fn check(number: u32) -> Result<(), Refusal> {
         match number {
             DONE => Ok(()),
@@ -84,7 +95,6 @@ impl fmt::Display for Refusal {
         f.write_str(match self {
             Refusal::WrongCall => "a partition, a slot or a bus is too large",
             Refusal::SenderInactive => "the sender is inactive",
-            Refusal::Form => "the packet is malformed",
             Refusal::NotCarried => "packets of this kind are not carried",
             Refusal::Poisoned => "the packet is poisoned, and may not pass there",
             Refusal::NoWindow => "no window of the sender covers the address",
@@ -94,6 +104,12 @@ impl fmt::Display for Refusal {
             Refusal::WindowValues => "these values make no window",
             Refusal::Overlap => "the window would overlap another of its partition",
             Refusal::Repetition => "another slot of the partition holds this ID",
+            Refusal::TooShort => "the packet has fewer than 12 bytes",
+            Refusal::WrongLength => "the packet is longer or shorter than its first word says",
+            Refusal::Enables => "a request of one dword has last enables, or in a longer one the first or last are 0",
+            Refusal::Contiguity => "there is a gap between the bytes that the request enables, where none is allowed",
+            Refusal::PageCrossing => "the request runs past the end of its 4 KiB page",
+            Refusal::ZeroHighWord => "the high word of a 64-bit header is 0",
         })
     }
 }
@@ -348,8 +364,8 @@ mod ffi {
     }
 
     impl Switch {
-        /// Passes a packet that partition `p` sends: header, then data, and nothing else. Any bytes will do. Refusals 1 to 9;
-        /// 3 to 9 are noted in the log of `p`. What comes out is written over the start of `out`.
+        /// Passes a packet that partition `p` sends: header, then data, and nothing else. Any bytes will do. Refusals 1, 2,
+        /// 4 to 9 and 31 to 36; all but 1 and 2 are noted in the log of `p`. What comes out is written over the start of `out`.
         pub fn pass<'a>(&mut self, p: u32, packet: &[u8], out: &'a mut [u8; OUT]) -> Outcome<'a> {
             let (windows, numbers, logs) = (&self.windows, &mut self.numbers, &mut self.logs);
             let mut answer = [0; ANSWER];

@@ -3,18 +3,40 @@ use super::*;
 
 const CROSSING: [u32; ANSWER] = [0, 15, 16, 3, 0x4A000001, 0x10000004, 0x03000510, 0];
 
+const NUMBERED: [(Refusal, u32); 17] = [
+    (Refusal::WrongCall, 1),
+    (Refusal::SenderInactive, 2),
+    (Refusal::NotCarried, 4),
+    (Refusal::Poisoned, 5),
+    (Refusal::NoWindow, 6),
+    (Refusal::NoEntry, 7),
+    (Refusal::DestinationInactive, 8),
+    (Refusal::NotPassable, 9),
+    (Refusal::WindowValues, 10),
+    (Refusal::Overlap, 11),
+    (Refusal::Repetition, 12),
+    (Refusal::TooShort, 31),
+    (Refusal::WrongLength, 32),
+    (Refusal::Enables, 33),
+    (Refusal::Contiguity, 34),
+    (Refusal::PageCrossing, 35),
+    (Refusal::ZeroHighWord, 36),
+];
+const NO_NUMBERS: [u32; 5] = [3, 13, 30, 37, u32::MAX];
+
 #[test]
 fn refusals_have_their_numbers() {
-    for (refusal, number) in Refusal::ALL.into_iter().zip(1..) {
-        assert_eq!(refusal.number(), number);
+    assert_eq!(Refusal::ALL.map(|refusal| (refusal, refusal.number())), NUMBERED);
+    for (refusal, number) in NUMBERED {
         assert_eq!(Refusal::from_number(number), Some(refusal));
         assert_eq!(Refusal::check(number), Err(refusal));
     }
-    for number in [0, 13, u32::MAX] {
+    for number in NO_NUMBERS {
         assert_eq!(Refusal::from_number(number), None);
+        assert_eq!(Refusal::check(number), Err(Refusal::WrongCall));
     }
+    assert_eq!(Refusal::from_number(0), None);
     assert_eq!(Refusal::check(0), Ok(()));
-    assert_eq!(Refusal::check(13), Err(Refusal::WrongCall));
 }
 
 #[test]
@@ -22,7 +44,7 @@ fn refusals_have_sentences_of_their_own() {
     let mut sentences: Vec<String> = Refusal::ALL.iter().map(|r| r.to_string()).collect();
     sentences.sort();
     sentences.dedup();
-    assert_eq!(sentences.len(), 12);
+    assert_eq!(sentences.len(), NUMBERED.len());
     assert!(sentences.iter().all(|sentence| sentence.len() > 10));
 }
 
@@ -81,9 +103,13 @@ fn words_that_do_not_belong_together_are_no_outcome() {
         assert_eq!(wrong(place, word), None);
         assert_eq!(wrong(place, u32::MAX), None);
     }
-    assert_eq!(Outcome::decode(3, &CROSSING, &out), None);
-    for kind in [CROSSED, ANSWERED, DROPPED] {
-        assert_eq!(Outcome::decode(13, &[kind, 1, 12, 3, 0, 0, 0, 0], &out), None);
+    for (_, number) in NUMBERED {
+        assert_eq!(Outcome::decode(number, &CROSSING, &out), None);
+    }
+    for number in NO_NUMBERS {
+        for kind in [CROSSED, ANSWERED, DROPPED] {
+            assert_eq!(Outcome::decode(number, &[kind, 1, 12, 3, 0, 0, 0, 0], &out), None);
+        }
     }
 }
 
@@ -210,12 +236,12 @@ mod linked {
         Ok(())
     }
 
+    /// But for 31 to 36, which have a test of their own.
     #[test]
     fn each_refusal_of_a_packet_is_met() -> Result<(), Refusal> {
-        let cases: [(u32, &[u32], Refusal); 9] = [
+        let cases: [(u32, &[u32], Refusal); 8] = [
             (16, &READ, Refusal::WrongCall),
             (3, &READ, Refusal::SenderInactive),
-            (1, &[], Refusal::Form),
             (1, &[0x01000001, 0x0300050F, 0x90000010], Refusal::NotCarried),
             (1, &[0x40004001, 0x0300050F, 0x90000010, 0], Refusal::Poisoned),
             (1, &FAR_READ, Refusal::NoWindow),
@@ -230,6 +256,46 @@ mod linked {
             if let Outcome::Dropped(_) = outcome {
                 assert_eq!(out, [0xAA; OUT]);
             }
+        }
+        Ok(())
+    }
+
+    /// So many bytes of these words, from partition 1, are dropped and logged, and nothing else changes.
+    fn dropped(words: &[u32], length: usize, refusal: Refusal, bit: LogBit) -> Result<(), Refusal> {
+        let (mut switch, mut wanted, mut out) = (sheet()?, sheet()?, [0xAA; OUT]);
+        let bytes = Words(words).bytes();
+        assert_eq!(switch.pass(1, &bytes[..length], &mut out), Outcome::Dropped(refusal));
+        assert_eq!(out, [0xAA; OUT]);
+        wanted.logs[6..8].copy_from_slice(&[bit.mask(), bit.number()]);
+        let header = if bytes.first().map_or(false, |kind| kind & 0x20 != 0) { 16 } else { 12 };
+        for (i, byte) in bytes[..length].iter().take(header).enumerate() {
+            wanted.logs[8 + i / 4] |= u32::from(*byte) << (24 - 8 * (i % 4));
+        }
+        assert_eq!(switch, wanted);
+        Ok(())
+    }
+
+    /// No bytes; then a packet that breaks a rule of form and the next one gets the first; with that mended, it gets the other.
+    #[test]
+    fn of_two_broken_rules_the_first_counts() -> Result<(), Refusal> {
+        let cases: [(&[u32], usize, Refusal); 13] = [
+            (&[], 0, Refusal::TooShort),
+            (&[0x01000001, 0x0300050F, 0x90000010], 11, Refusal::TooShort),
+            (&[0x01000001, 0x0300050F, 0x90000010], 12, Refusal::NotCarried),
+            (&[0x01000001, 0x0300050F, 0x90000010, 0], 16, Refusal::NotCarried),
+            (&[0x00000001, 0x0300050F, 0x90000010, 0], 16, Refusal::WrongLength),
+            (&[0x00000001, 0x0300051F, 0x90000010, 0], 16, Refusal::WrongLength),
+            (&[0x00000001, 0x0300051F, 0x90000010], 12, Refusal::Enables),
+            (&[0x00000002, 0x030005F0, 0x90000014], 12, Refusal::Enables),
+            (&[0x00000002, 0x030005F5, 0x90000014], 12, Refusal::Contiguity),
+            (&[0x00000002, 0x030005F5, 0x90000FFC], 12, Refusal::Contiguity),
+            (&[0x00000002, 0x030005FF, 0x90000FFC], 12, Refusal::PageCrossing),
+            (&[0x20000002, 0x030005FF, 0x00000000, 0x90000FFC], 16, Refusal::PageCrossing),
+            (&[0x20000002, 0x030005FF, 0x00000000, 0x90000FF8], 16, Refusal::ZeroHighWord),
+        ];
+        for (words, length, refusal) in cases {
+            let bit = if refusal == Refusal::NotCarried { LogBit::Unsupported } else { LogBit::Malformed };
+            dropped(words, length, refusal, bit)?;
         }
         Ok(())
     }

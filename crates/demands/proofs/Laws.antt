@@ -13,4 +13,5 @@ pub mod NoConfusion
 pub mod Number
 pub mod Outgoing
 pub mod Return
+pub mod Rules
 pub mod Settled

@@ -3,6 +3,7 @@
 use Prim.Native.Nat.{ℕ, _≤_}
 use mathlib.Core.Bool.{true}
 use mathlib.Core.Path.{_≡_}
+use mathlib.Core.Logic.{_⊎_}
 use lib.ListN.{length, take, drop}
 use Rattle.header.specs.Kind.{isRead}
 use Rattle.header.specs.Words.{headerOf}
@@ -16,6 +17,10 @@ use Rattle.switch.specs.Rule.{busId}
 use Rattle.demands.specs.Call.{Call, answerOf, outOf, logsOf}
 use Rattle.demands.specs.Settled.{OtherLogsKept}
 
+-- "a number from the list", for passing: 1, 2, 4 to 9, and R-4's 31 to 36
+abbrev pub OnList : ℕ → Type 0
+OnList n = ((1 ≤ n) × (n ≤ 2)) ⊎ (((4 ≤ n) × (n ≤ 9)) ⊎ ((31 ≤ n) × (n ≤ 36)))
+
 -- a read alone is answered, by 5 to 8, with the completion that the list names, in the sender's partition: 12 bytes of Out
 pub record AnswersOnly (c : Call) (n : ℕ) (x : Sent) : Type 0 where
   pub listed : (5 ≤ n) × (n ≤ 8)
@@ -28,7 +33,7 @@ pub record AnswersOnly (c : Call) (n : ℕ) (x : Sent) : Type 0 where
 abbrev pub OutAltered : Call → Answer → Type 0
 OutAltered c (crossed x) = Unit {0}
 OutAltered c (answered n x) = AnswersOnly c n x
-OutAltered c (dropped n) = (1 ≤ n) × (n ≤ 9) × (outOf c ≡ c .out)
+OutAltered c (dropped n) = OnList n × (outOf c ≡ c .out)
 
 -- the demand, for every call
 pub record Altered (c : Call) : Type 0 where

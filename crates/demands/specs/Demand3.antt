@@ -54,8 +54,8 @@ NoConfusion =
     (a b : Call) (x y : Sent) → Passed a x → Passed b y → x .partition ≡ y .partition → SameEntries a b
     → numberOut a x ≡ numberOut b y → tagOut a x ≡ tagOut b y → OneSender a b
 
--- "a well-formed .. completion of a carried kind, sent from there with that number and tag": 1, 3 and 4 are not given. "Unpoisoned" or,
--- by R-3, marked
+-- "a well-formed .. completion of a carried kind, sent from there with that number and tag": 1, 4 and, R-4, 31 to 36
+-- are not given. "Unpoisoned" or, by R-3, marked
 pub record Completes (a : Call) (x : Sent) (c : Call) : Type 0 where
   pub lent : Lent c
   pub from-there : c .sender ≡ x .partition

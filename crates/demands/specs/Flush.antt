@@ -32,13 +32,13 @@ pub record RestKept (s : List ℕ) : Type 0 where
 abbrev pub FlushWellFormed : Type 0
 FlushWellFormed = (s : List ℕ) → Flush s → RestKept s → packetOf s ≡ requestOf (headerOf s)
 
--- "3 no longer for this"
-abbrev pub FlushNever3 : Type 0
-FlushNever3 = (c : Call) → Flush (c .packet) → RestKept (c .packet) → answerOf c ≡ dropped 3 → ⊥
+-- "3 no longer for this", in R-4's numbers: 33, 34 and 35, for enables, gaps and pages, are not given to a flush, whatever else it breaks
+abbrev pub FlushNever33To35 : Type 0
+FlushNever33To35 = (c : Call) (n : ℕ) → Flush (c .packet) → 33 ≤ n → n ≤ 35 → answerOf c ≡ dropped n → ⊥
 
--- a read, flush or not, is answered by 5 and above, and never dropped by them
+-- a read, flush or not, is never dropped by 5 to 9: where they refuse it, it is answered
 abbrev pub RefusedReadsAnswered : Type 0
-RefusedReadsAnswered = (c : Call) (n : ℕ) → isRead (kind (headerOf (c .packet))) ≡ true → 5 ≤ n → answerOf c ≡ dropped n → ⊥
+RefusedReadsAnswered = (c : Call) (n : ℕ) → isRead (kind (headerOf (c .packet))) ≡ true → 5 ≤ n → n ≤ 9 → answerOf c ≡ dropped n → ⊥
 
 -- "the byte count is 1 and the low two bits of the lower address are 0", in the answer to a flush read that is refused:
 -- the lower address is bits 6:2 of the address, and 00

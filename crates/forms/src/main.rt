@@ -314,10 +314,26 @@ fn pages() {
     show(12, 0x0000_0000, 0x0300_05FF, 0x9000_0004, 0);
     say(b"64-bit read with a zero high word");
     show(16, 0x2000_0001, 0x0300_050F, 0x0000_0000, 0x9000_0010);
-    say(b"the same past a page");
-    show(16, 0x2000_0002, 0x0300_05FF, 0x0000_0000, 0x900F_FFFC);
     say(b"address with low bits 11");
     show(12, 0x0000_0001, 0x0300_050F, 0x9000_0013, 0);
+}
+
+// Two rules or more at once: the first gives its number.
+fn together() {
+    say(b"locked read with a dword of data");
+    show(16, 0x0100_0001, 0x0300_050F, 0x9000_0010, 0);
+    say(b"last 0001 and a dword of data");
+    show(16, 0x0000_0001, 0x0300_051F, 0x9000_0010, 0);
+    say(b"Length 3, first 0000");
+    show(12, 0x0000_0003, 0x0300_05F0, 0x9000_0018, 0);
+    say(b"Length 2 past a page, first 0111");
+    show(12, 0x0000_0002, 0x0300_05F7, 0x900F_FFFC, 0);
+    say(b"64-bit, Length 2 past a page, zero high word");
+    show(16, 0x2000_0002, 0x0300_05FF, 0x0000_0000, 0x900F_FFFC);
+    say(b"all but too short and not carried");
+    show(20, 0x2000_0003, 0x0300_0500, 0x0000_0000, 0x900F_FFFC);
+    say(b"all but too short");
+    show(20, 0x2000_8003, 0x0300_0500, 0x0000_0000, 0x900F_FFFC);
 }
 
 fn main() {
@@ -333,4 +349,5 @@ fn main() {
     flushes();
     contiguity();
     pages();
+    together();
 }

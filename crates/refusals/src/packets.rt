@@ -119,7 +119,7 @@ fn wrong_calls() {
     long_logs();
 }
 
-// Refusal 1 by the partition, and 2; neither is logged, and both come before 3.
+// Refusal 1 by the partition, and 2; neither is logged, and both come before the rules of form.
 fn senders() {
     three(b"from 16", 16, 12, 1, 0x0300_050F, 0x9000_0010);
     three(
@@ -234,6 +234,28 @@ fn forms() {
     wide(b"N", 16, 0x2000_0001, 0, 0x9000_0010);
 }
 
+// Contiguity alone, and two neighbouring rules at once: the first gives its number.
+fn two_rules() {
+    one(b"Length 3, first 0111", 12, 3, 0x0300_05F7, 0x9000_0018);
+    one(
+        b"locked, and a word of data",
+        16,
+        0x0100_0001,
+        0x0300_050F,
+        0x9000_0010,
+    );
+    one(
+        b"last 0001, and a word of data",
+        16,
+        1,
+        0x0300_051F,
+        0x9000_0010,
+    );
+    one(b"Length 3, first 0000", 12, 3, 0x0300_05F0, 0x9000_0018);
+    one(b"E, first 0111", 12, 2, 0x0300_05F7, 0x900F_FFFC);
+    packet(b"E and N", 1, 16, 0x2000_0002, 0x0300_05FF, 0, 0x900F_FFFC);
+}
+
 // Other lengths than the header says.
 fn lengths() {
     one(
@@ -292,7 +314,7 @@ fn not_carried() {
     wide(b"a message with data", 20, 0x7400_0001, 1, 0x9000_0010);
 }
 
-// "TD set; AT not 0", on any kind and before the rest of 3.
+// "TD set; AT not 0", on any kind and before 32 to 36.
 fn digests() {
     one(b"A with TD", 12, 0x0000_8001, 0x0300_050F, 0x9000_0010);
     one(
@@ -464,6 +486,7 @@ pub(crate) fn all() {
     flushes();
     refused_flushes();
     forms();
+    two_rules();
     lengths();
     more_lengths();
     not_carried();

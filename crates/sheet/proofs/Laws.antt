@@ -4,3 +4,4 @@ pub mod Short
 pub mod Witness
 pub mod Flush
 pub mod Marks
+pub mod Rules

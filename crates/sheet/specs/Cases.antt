@@ -79,12 +79,12 @@ caseD = record {
   row = empty;
 }
 
--- E. D with Length 2: 3
+-- E. D with Length 2: 35
 abbrev pub caseE : Case
 caseE = record {
   sender = 1;
   packet = wire (0x00000002 ∷ 0x030005FF ∷ 0x900FFFFC ∷ []);
-  answer = dropped 3;
+  answer = dropped 35;
   written = [];
   row = 0x00040000 ∷ 18 ∷ 0x00000002 ∷ 0x030005FF ∷ 0x900FFFFC ∷ 0 ∷ [];
 }
@@ -139,22 +139,22 @@ caseJ = record {
   row = 0x00010000 ∷ 16 ∷ 0x4A000001 ∷ 0x01000004 ∷ 0x02460510 ∷ 0 ∷ [];
 }
 
--- K. Eleven bytes of A: 3
+-- K. Eleven bytes of A: 31
 abbrev pub caseK : Case
 caseK = record {
   sender = 1;
   packet = take 11 (wire (0x00000001 ∷ 0x0300050F ∷ 0x90000010 ∷ []));
-  answer = dropped 3;
+  answer = dropped 31;
   written = [];
   row = 0x00040000 ∷ 18 ∷ 0x00000001 ∷ 0x0300050F ∷ 0x90000000 ∷ 0 ∷ [];
 }
 
--- K. No bytes: 3, header words 0
+-- K. No bytes: 31, header words 0
 abbrev pub caseKnone : Case
 caseKnone = record {
   sender = 1;
   packet = [];
-  answer = dropped 3;
+  answer = dropped 31;
   written = [];
   row = 0x00040000 ∷ 18 ∷ 0 ∷ 0 ∷ 0 ∷ 0 ∷ [];
 }
@@ -169,6 +169,16 @@ caseM = record {
   row = empty;
 }
 
+-- N. A behind a 64-bit header: 36 (R-4)
+abbrev pub caseN : Case
+caseN = record {
+  sender = 1;
+  packet = wire (0x20000001 ∷ 0x0300050F ∷ 0x00000000 ∷ 0x90000010 ∷ []);
+  answer = dropped 36;
+  written = [];
+  row = 0x00040000 ∷ 18 ∷ 0x20000001 ∷ 0x0300050F ∷ 0 ∷ 0x90000010 ∷ [];
+}
+
 -- the sheet's proved cases; L, which is of byte counts, stands beside them
 abbrev pub cases : List Case
-cases = caseA ∷ caseB ∷ caseC ∷ caseD ∷ caseE ∷ caseF ∷ caseG ∷ caseH ∷ caseI ∷ caseJ ∷ caseK ∷ caseKnone ∷ caseM ∷ []
+cases = caseA ∷ caseB ∷ caseC ∷ caseD ∷ caseE ∷ caseF ∷ caseG ∷ caseH ∷ caseI ∷ caseJ ∷ caseK ∷ caseKnone ∷ caseM ∷ caseN ∷ []

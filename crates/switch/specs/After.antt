@@ -1,8 +1,9 @@
 -- What passing changes: Out and the sender's log, as functions of the answer and the packet.
 use Prim.Native.Nat.{ℕ}
+use mathlib.Core.Bool.{_&&_}
 use mathlib.Core.List.{List, []}
 use lib.ListN.{drop}
-use lib.Dec.{eqb, ltb}
+use lib.Dec.{eqb, ltb, leb}
 use Rattle.header.specs.Pick.{pick}
 use Rattle.header.specs.Kind.{headerBytes}
 use Rattle.header.specs.Words.{headerOf}
@@ -25,11 +26,11 @@ outAfter (crossed s) packet out = over out 0 (packetList (s .header) (dataOf pac
 outAfter (answered n s) packet out = over out 0 (packetList (s .header) [])
 outAfter (dropped n) packet out = out
 
--- the list's column "Log bit": none for 1 and 2, 18 for 3, 12 for 5, 16 for 9, and 20 for 4, 6, 7, 8
+-- the list's column "Log bit": none for 1 and 2, 12 for 5, 16 for 9, and 20 for 4, 6, 7, 8; R-4: 18 "stays", for 31 to 36
 unfoldable pub logBit : ℕ → Logged
 logBit n =
     pick (ltb n 3) No
-    (pick (eqb n 3) (Under Malformed)
+    (pick (leb 31 n && leb n 36) (Under Malformed)
     (pick (eqb n 5) (Under Poisoned)
     (pick (eqb n 9) (Under UnexpectedCompletion)
     (Under Unsupported))))

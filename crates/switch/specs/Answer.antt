@@ -4,8 +4,9 @@ use Rattle.header.specs.Pick.{pick}
 use Rattle.header.specs.Kind.{hasFourWords}
 use Rattle.header.specs.Fields.{kind, totalBytes}
 use Rattle.header.specs.declared.words.Header.{Header}
+use Rattle.tlp.specs.Form.{ruleNumber}
 use Rattle.switch.specs.declared.answer.Refusal.{Refusal}
-use Rattle.switch.specs.declared.answer.Refusal.the-variants.{WrongCall, SenderInactive, Form, NotCarried, Poisoned, NoWindow, NoEntry, DestinationInactive, NotPassable}
+use Rattle.switch.specs.declared.answer.Refusal.the-variants.{WrongCall, SenderInactive, Broken, Poisoned, NoWindow, NoEntry, DestinationInactive, NotPassable}
 use Rattle.switch.specs.declared.answer.Sent.{Sent}
 use Rattle.switch.specs.declared.answer.Outcome.{Outcome}
 use Rattle.switch.specs.declared.answer.Outcome.the-variants.{Crossed, Answered, Dropped}
@@ -16,12 +17,11 @@ pub data Answer : Type 0 where
   answered : ℕ → Sent → Answer
   dropped : ℕ → Answer
 
--- the list's number of each refusal
+-- the list's number of each refusal; a rule of form that broke has its own, which the packet layer names
 abbrev pub refusalNumber : Refusal → ℕ
 refusalNumber WrongCall = 1
 refusalNumber SenderInactive = 2
-refusalNumber Form = 3
-refusalNumber NotCarried = 4
+refusalNumber (Broken r) = ruleNumber r
 refusalNumber Poisoned = 5
 refusalNumber NoWindow = 6
 refusalNumber NoEntry = 7

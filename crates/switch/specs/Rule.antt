@@ -106,7 +106,7 @@ completionRule p bus h windows numbers =
     pick (not (eqb (completionRequesterId h) (mappedId bus (completionRequesterId h % 64)))) (dropped 9)
     (throughHeld (entryAt numbers (completionRequesterId h % 64)) (completionRequesterId h % 64) p h windows numbers)
 
--- 3 and 4 by the packet layer; then requests or completions
+-- 31, 4, and 32 to 36 by the packet layer, as it names them; then requests or completions
 abbrev pub packetRule : Packet → ℕ → ℕ → List ℕ → List ℕ → Answer
 packetRule (Broken r) p bus windows numbers = dropped (ruleNumber r)
 packetRule (Read h) p bus windows numbers = requestRule true p bus h windows numbers

@@ -3,6 +3,7 @@ ghost use mathlib.Core.Path.{_≡_};
 ghost use mathlib.Core.List.{List};
 ghost use Prim.Native.Nat.{ℕ};
 ghost use Rattle.header.specs.Words.{headerOf};
+ghost use Rattle.tlp.specs.Form.{ruleNumber};
 ghost use Rattle.switch.specs.Answer.{refusalNumber, onPaper};
 ghost use Rattle.switch.specs.After.{dataOf, outAfter, logBit, logged, logsAfter};
 use crate::answer::Outcome;
@@ -10,11 +11,27 @@ use crate::answer::Refusal;
 use header::words;
 use header::words::Header;
 use logs::Bit;
+use tlp::form::Rule;
 
 // Whether a refusal is logged, and under which bit.
 pub enum Logged {
     No,
     Under(Bit),
+}
+
+// The bit of a rule of form that broke.
+fn rule_bit(rule: Rule) -> Logged
+    ensures { λ r. ⌜ r ≡ logBit (ruleNumber rule) ⌝ }
+{
+    match rule {
+        Rule::TooShort => Logged::Under(Bit::Malformed),
+        Rule::NotCarried => Logged::Under(Bit::Unsupported),
+        Rule::WrongLength => Logged::Under(Bit::Malformed),
+        Rule::Enables => Logged::Under(Bit::Malformed),
+        Rule::Contiguity => Logged::Under(Bit::Malformed),
+        Rule::PageCrossing => Logged::Under(Bit::Malformed),
+        Rule::ZeroHighWord => Logged::Under(Bit::Malformed),
+    }
 }
 
 impl Refusal {
@@ -25,8 +42,7 @@ impl Refusal {
         match self {
             Refusal::WrongCall => Logged::No,
             Refusal::SenderInactive => Logged::No,
-            Refusal::Form => Logged::Under(Bit::Malformed),
-            Refusal::NotCarried => Logged::Under(Bit::Unsupported),
+            Refusal::Broken(rule) => rule_bit(rule),
             Refusal::Poisoned => Logged::Under(Bit::Poisoned),
             Refusal::NoWindow => Logged::Under(Bit::Unsupported),
             Refusal::NoEntry => Logged::Under(Bit::Unsupported),

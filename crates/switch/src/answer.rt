@@ -2,13 +2,13 @@
 ghost use mathlib.Core.Path.{_≡_};
 ghost use Rattle.switch.specs.Answer.{sentOf, refusalNumber};
 use header::words::Header;
+use tlp::form::Rule;
 
-// The refusals that a packet can get, one for each of the paper's numbers.
+// The refusals that a packet can get, one for each of the list's numbers: those of the packet layer as it names them.
 pub enum Refusal {
     WrongCall,
     SenderInactive,
-    Form,
-    NotCarried,
+    Broken(Rule),
     Poisoned,
     NoWindow,
     NoEntry,
@@ -24,8 +24,7 @@ impl Refusal {
         match self {
             Refusal::WrongCall => 1,
             Refusal::SenderInactive => 2,
-            Refusal::Form => 3,
-            Refusal::NotCarried => 4,
+            Refusal::Broken(rule) => rule.number() as u32,
             Refusal::Poisoned => 5,
             Refusal::NoWindow => 6,
             Refusal::NoEntry => 7,

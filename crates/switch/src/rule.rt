@@ -6,7 +6,6 @@ ghost use Prim.Native.Nat.{ℕ, _<_};
 ghost use Rattle.header.specs.Words.{headerOf};
 ghost use Rattle.header.specs.declared.words.Header.{Header};
 ghost use Rattle.numbers.specs.declared.entries.Found.the-variants.{At};
-ghost use Rattle.tlp.specs.Form.{ruleNumber};
 ghost use Rattle.windows.specs.Look.{reaches};
 ghost use Rattle.switch.specs.Answer.{refusalNumber, onPaper};
 ghost use Rattle.switch.specs.Rule.{
@@ -223,21 +222,6 @@ fn completion(p: u8, bus: u8, h: Header, windows: &[u64], numbers: &[u32]) -> Ou
     through_held(entries::entry_at(numbers, i), i, p, h, windows, numbers)
 }
 
-// The refusal for a rule of form that broke.
-fn broken(rule: Rule) -> Refusal
-    ensures { λ r. ⌜ refusalNumber r ≡ ruleNumber rule ⌝ }
-{
-    match rule {
-        Rule::TooShort => Refusal::Form,
-        Rule::NotCarried => Refusal::NotCarried,
-        Rule::WrongLength => Refusal::Form,
-        Rule::Enables => Refusal::Form,
-        Rule::Contiguity => Refusal::Form,
-        Rule::PageCrossing => Refusal::Form,
-        Rule::ZeroHighWord => Refusal::Form,
-    }
-}
-
 // Reads and writes as one sort, that of requests.
 fn sorted(packet: Packet) -> Sort
     ensures { λ r. ⌜ ((p bus : ℕ) (windows numbers : List ℕ) → sortRule r p bus windows numbers ≡ packetRule packet p bus windows numbers) ⌝ }
@@ -258,11 +242,11 @@ fn of_sort(sort: Sort, p: u8, bus: u8, windows: &[u64], numbers: &[u32]) -> Outc
     match sort {
         Sort::Request(reading, h) => request(reading, p, bus, h, windows, numbers),
         Sort::Completion(h) => completion(p, bus, h, windows, numbers),
-        Sort::Broken(rule) => Outcome::Dropped(broken(rule)),
+        Sort::Broken(rule) => Outcome::Dropped(Refusal::Broken(rule)),
     }
 }
 
-// 3 and 4 by the packet layer; then requests or completions.
+// 31, 4, and 32 to 36 by the packet layer; then requests or completions.
 fn of_packet(packet: Packet, p: u8, bus: u8, windows: &[u64], numbers: &[u32]) -> Outcome
     requires { ⌜ p < 16 ⌝ }
     ensures { λ r. ⌜ onPaper r ≡ packetRule packet p bus (now (windows .entry)) (now (numbers .entry)) ⌝ }

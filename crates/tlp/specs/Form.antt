@@ -87,15 +87,15 @@ formOf n h =
 abbrev pub packetOf : List ℕ → Packet
 packetOf s = formOf (length s) (headerOf s)
 
--- the paper's refusal number of each rule: 4 for "not carried", 3 for the others
+-- the list's refusal number of each rule: R-4, "31 to 36 replace 3 in that order", and 4 for "not carried"
 abbrev pub ruleNumber : Rule → ℕ
-ruleNumber TooShort = 3
+ruleNumber TooShort = 31
 ruleNumber NotCarried = 4
-ruleNumber WrongLength = 3
-ruleNumber Enables = 3
-ruleNumber Contiguity = 3
-ruleNumber PageCrossing = 3
-ruleNumber ZeroHighWord = 3
+ruleNumber WrongLength = 32
+ruleNumber Enables = 33
+ruleNumber Contiguity = 34
+ruleNumber PageCrossing = 35
+ruleNumber ZeroHighWord = 36
 
 -- the refusal number of what was read; 0, which is no refusal, of a packet that breaks no rule
 abbrev pub packetNumber : Packet → ℕ

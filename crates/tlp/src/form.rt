@@ -43,13 +43,13 @@ impl Rule {
         ensures { λ r. ⌜ r ≡ ruleNumber self ⌝ }
     {
         match self {
-            Rule::TooShort => 3,
+            Rule::TooShort => 31,
             Rule::NotCarried => 4,
-            Rule::WrongLength => 3,
-            Rule::Enables => 3,
-            Rule::Contiguity => 3,
-            Rule::PageCrossing => 3,
-            Rule::ZeroHighWord => 3,
+            Rule::WrongLength => 32,
+            Rule::Enables => 33,
+            Rule::Contiguity => 34,
+            Rule::PageCrossing => 35,
+            Rule::ZeroHighWord => 36,
         }
     }
 }

@@ -41,9 +41,8 @@ use Rattle.switch.proofs.Laws.Call.{passable-active}
 use Rattle.switch.proofs.Laws.Frame.{request-length, completion-crossed-length}
 use Rattle.demands.specs.Call.{Call, answerOf, outOf, cameOut, isRequest, Lent}
 use Rattle.demands.specs.Demand3.{CameOutWhole, AllCameOutWhole}
-use Rattle.demands.proofs.Laws.Bytes.{of-completions}
 use Rattle.demands.proofs.Laws.Crossing.{IsRequest, IsCompletion, Through, CompletionCrossed, before-packet, request-crossed, completion-crossed}
-use Rattle.demands.proofs.Laws.Forms.{form-number}
+use Rattle.demands.proofs.Laws.Forms.{no-rule, two-kinds}
 use Rattle.demands.proofs.Laws.Outgoing.{Words64, bus-lt, bus-id-lt, translation-lt, translation-pages, number-lt}
 
 -- a request that breaks no rule
@@ -64,7 +63,7 @@ sort s e = by-packet (packetOf s) refl e
     by-packet (Read g) q z = inl (inl (q ∙ ap Read (inverted-read (length s) (headerOf s) g q .2)))
     by-packet (Write g) q z = inl (inr (q ∙ ap Write (inverted-write (length s) (headerOf s) g q .2)))
     by-packet (Completion g) q z = inr (q ∙ ap Completion (inverted-completion (length s) (headerOf s) g q .1))
-    by-packet (Broken r) q z = absurd (omega (arith, form-number r, z))
+    by-packet (Broken r) q z = absurd (no-rule r 0 (omega arith) (λ e. omega (arith, e)) z)
 
 -- what breaks no rule and is of a completion's kind is a completion
 pub whole-completion : (s : List ℕ) → packetNumber (packetOf s) ≡ 0 → isCompletion (kind (headerOf s)) ≡ true → IsCompletion s
@@ -82,10 +81,6 @@ pub crossed-sort : (c : Call) (x : Sent) → answerOf c ≡ crossed x → IsRequ
 crossed-sort c x e =
     let b = before-packet (c .sender) (c .packet) (c .windows) (c .numbers) (length (c .logs)) (length (c .out)) x e in
     sort (c .packet) (crossed-whole (packetOf (c .packet)) (c .sender) (busOf (c .numbers) (c .sender)) (c .windows) (c .numbers) x (b .2))
-
--- no kind is a request's and a completion's
-pub two-kinds : (k : ℕ) → (isRead k || isWrite k) ≡ true → isCompletion k ≡ true → ⊥
-two-kinds k r c = true≢false (sym r ∙ of-completions (λ (m : ℕ). isRead m || isWrite m) false refl refl k c)
 
 -- what crosses and is of a request's kind is a request
 pub crossed-request : (c : Call) (x : Sent) → isRequest (c .packet) ≡ true → answerOf c ≡ crossed x → IsRequest (c .packet)

@@ -44,7 +44,7 @@ out-altered c = by-answer (answerOf c) refl (listed c)
         let xs = headerList (x .header) in
         let w = over-start (c .out) xs (outOf c) 12 (e ∙ ap (over (c .out) 0) (append-nil xs)) (answer-header c n x l) (omega (arith, l .right .out-length)) in
         record { listed = (l .from-5, l .to-8); read = l .read; answer = l .answer; written = w .0; beyond = w .1 }
-    by-answer (dropped n) e l = (l .0, l .1, e)
+    by-answer (dropped n) e l = (l .0, e)
 
 -- the demand
 pub altered : (c : Call) → Altered c

@@ -7,7 +7,7 @@ use mathlib.Core.Path.{_≡_, refl, sym, ap, _∙_, subst}
 use mathlib.Core.Bool.{Bool, true, false, not, _||_, true≢false}
 use mathlib.Core.List.{List}
 use native.Mathlib.Omega.{arith}
-use borrow.Author.Tests.{eqb-true, not-false}
+use borrow.Author.Tests.{eqb-true, eqb-false, not-false}
 use lib.Dec.{eqb}
 use lib.ListN.{length, drop, length-drop}
 use lib.Seq.{drop-at}
@@ -18,35 +18,31 @@ use Rattle.header.specs.Words.{headerOf}
 use Rattle.header.specs.Fields.{kind, dwords, dataBytes, totalBytes, requesterId, address, byteCountField, lowerAddressField}
 use Rattle.header.specs.Rewrite.{readdressed, renamed}
 use Rattle.header.specs.declared.words.Header.{Header}
-use Rattle.header.proofs.Laws.Pick.{either}
+use Rattle.header.proofs.Laws.Join.{both}
 use Rattle.header.proofs.Laws.Words.{Bytes}
-use Rattle.tlp.specs.Form.{requestOf, packetOf, ruleNumber}
+use Rattle.tlp.specs.Form.{enablesBroken, contiguityBroken, crossesPage, requestOf, packetOf, ruleNumber}
+use Rattle.tlp.specs.declared.form.Rule.{Rule}
+use Rattle.tlp.specs.declared.form.Rule.the-variants.{Enables, Contiguity, PageCrossing}
 use Rattle.tlp.specs.Write.{headerList, packetList}
 use Rattle.tlp.specs.declared.form.Packet.{Packet}
-use Rattle.tlp.specs.declared.form.Packet.the-variants.{Read, Write, Completion, Broken}
 use Rattle.tlp.proofs.Laws.Answer.{answer-count, answer-lower}
-use Rattle.tlp.proofs.Laws.Flush.{flush-count, flush-lower, flush-form}
-use Rattle.tlp.proofs.Laws.Form.{WellFormed, accepted, inverted, inverted-write, inverted-completion, moved-read, crosses-well-formed}
+use Rattle.tlp.proofs.Laws.Flush.{flush-count, flush-lower, flush-enables, flush-contiguous, flush-paged, flush-form}
+use Rattle.tlp.proofs.Laws.Form.{WellFormed, accepted, inverted, moved-read, crosses-well-formed}
 use Rattle.tlp.proofs.Laws.Write.{length-header}
-use Rattle.windows.specs.Look.{lookUp}
-use Rattle.windows.specs.declared.look.Translation.{Translation}
-use Rattle.windows.specs.declared.look.Look.{Look}
-use Rattle.windows.specs.declared.look.Look.the-variants.{Shut, Open}
-use Rattle.numbers.specs.Entries.{entryOf}
-use Rattle.numbers.specs.Buses.{busOf, isActive}
-use Rattle.numbers.specs.declared.entries.Found.{Found}
-use Rattle.numbers.specs.declared.entries.Found.the-variants.{Nothing, At}
+use Rattle.numbers.specs.Buses.{busOf}
 use Rattle.switch.specs.declared.answer.Sent.{Sent}
 use Rattle.switch.specs.Answer.{Answer, crossed, answered, dropped}
-use Rattle.switch.specs.Rule.{wrongCall, busId, mappedId, refused, toDestination, throughEntry, isStopped, throughMark, throughWindow, requestRule, packetRule, passRule}
+use Rattle.switch.specs.Rule.{busId, mappedId, packetRule}
 use Rattle.switch.specs.After.{dataOf}
 use Rattle.demands.specs.Call.{Call, answerOf, cameOut, isRequest, Lent}
-use Rattle.demands.specs.Flush.{Flush, FlushWellFormed, FlushNever3, RefusedReadsAnswered, FlushAnswered, FlushCameOut, FlushCrosses}
-use Rattle.demands.proofs.Laws.CameOut.{two-kinds, request-kind, crossed-request, request-form, came-out-whole}
+use Rattle.demands.specs.Rules.{ofRequests, breaks}
+use Rattle.demands.specs.Flush.{Flush, FlushWellFormed, FlushNever33To35, RefusedReadsAnswered, FlushAnswered, FlushCameOut, FlushCrosses}
+use Rattle.demands.proofs.Laws.CameOut.{request-kind, crossed-request, request-form, came-out-whole}
 use Rattle.demands.proofs.Laws.Crossing.{Through, request-crossed}
-use Rattle.demands.proofs.Laws.Forms.{form-number}
-use Rattle.demands.proofs.Laws.Listed.{Answers, Listed, listed}
+use Rattle.demands.proofs.Laws.Forms.{no-rule, two-kinds, each-form}
+use Rattle.demands.proofs.Laws.Listed.{Answers, Listed, Decided, request-decided, past-2, listed}
 use Rattle.demands.proofs.Laws.Outgoing.{Words64, bus-lt, bus-id-lt, translation-lt, translation-pages, number-lt, sent-keeps, sent-dwords}
+use Rattle.demands.proofs.Laws.Rules.{number-names-rule}
 
 -- a request is no completion
 no-completion : (k : ℕ) → (isRead k || isWrite k) ≡ true → isCompletion k ≡ false
@@ -63,74 +59,39 @@ flush-well-formed s f r =
     accepted (length s) h
     (flush-form h (f .one-dword) (f .none-first) (length s) (f .none-last) (r .long) (r .carried) (r .whole) (no-completion (kind h) (f .request)) (r .high))
 
--- what is said of the answer to a request: no read is dropped, and a write by 5 and above alone
-abbrev Late : Bool → Answer → Type 0
-Late reading (crossed x) = Unit {0}
-Late reading (answered n x) = Unit {0}
-Late reading (dropped n) = (reading ≡ false) × (5 ≤ n)
+-- a flush breaks neither 33 nor 34 nor 35
+pub flush-never-33-to-35 : FlushNever33To35
+flush-never-33-to-35 c n f a b e = by-test (eqb n 33) refl (eqb n 34) refl
+  where
+    h : Header
+    h = headerOf (c .packet)
 
-module _ (reading : Bool) (p bus : ℕ) (h : Header) (windows numbers : List ℕ) where
-  refused-late : (n : ℕ) → 5 ≤ n → Late reading (refused reading n p bus h)
-  unfolding refused
-  refused-late n a = either (Late reading) reading (λ _. tt) (λ e. (e, a))
+    -- the rule that the number names is broken, but what it asks is kept
+    never : (r : Rule) (test : Bool) → breaks r (c .packet) ≡ ofRequests (c .packet) test → test ≡ false → n ≡ ruleNumber r → ⊥
+    never r test q k s =
+        true≢false (sym (both (isRequest (c .packet)) test (sym q ∙ number-names-rule c r (e ∙ ap dropped s) .broken) .1) ∙ k)
 
-  entry-late : (f : Found) (t : Translation) → Late reading (throughEntry f reading p bus h t numbers)
-  unfolding toDestination
-  entry-late Nothing t = refused-late 7 (omega arith)
-  entry-late (At i) t = either (Late reading) (not (isActive numbers (t .destination))) (λ _. refused-late 8 (omega arith)) (λ _. tt)
+    by-test : (s : Bool) → eqb n 33 ≡ s → (t : Bool) → eqb n 34 ≡ t → ⊥
+    by-test true s t u = never Enables (enablesBroken h) refl (flush-enables h (f .one-dword) (f .none-first) (f .none-last)) (eqb-true n 33 s)
+    by-test false s true u = never Contiguity (contiguityBroken h) refl (flush-contiguous h (f .one-dword) (f .none-first)) (eqb-true n 34 u)
+    by-test false s false u =
+        let k = eqb-false n 33 s in
+        let l = eqb-false n 34 u in
+        never PageCrossing (crossesPage h) refl (flush-paged h (f .one-dword) (f .none-first)) (omega (arith, a, b, k, l))
 
-  mark-late : (t : Translation) → Late reading (throughMark reading p bus h t numbers)
-  unfolding throughMark
-  mark-late t = either (Late reading) (isStopped h (t .marked)) (λ _. refused-late 5 (omega arith)) (λ _. entry-late (entryOf numbers p (requesterId h)) t)
-
-  window-late : (l : Look) → Late reading (throughWindow l reading p bus h numbers)
-  window-late Shut = refused-late 6 (omega arith)
-  window-late (Open t) = mark-late t
-
-  request-late : Late reading (requestRule reading p bus h windows numbers)
-  unfolding requestRule
-  request-late = window-late (lookUp windows p (address h))
-
--- a packet's own refusals come after 1 and 2
-module _ (c : Call) (n : ℕ) (a : 3 ≤ n) where
-  after-2 : (packetRule (packetOf (c .packet)) (c .sender) (busOf (c .numbers) (c .sender)) (c .windows) (c .numbers) ≡ dropped n → ⊥) → answerOf c ≡ dropped n → ⊥
-  unfolding passRule
-  after-2 f =
-      let p = c .sender in
-      let never : Answer → Type 0 = λ x. x ≡ dropped n → ⊥ in
-      either never (wrongCall p (length (c .windows)) (length (c .numbers)) (length (c .logs)) (length (c .out)))
-      (λ _ e. let same : 1 ≡ n = cc in omega (arith, same))
-      (λ _. either never (not (isActive (c .numbers) p)) (λ _ e. let same : 2 ≡ n = cc in omega (arith, same)) (λ _. f))
-
--- a flush that keeps the other rules is not refused by 3
-pub flush-never-3 : FlushNever3
-flush-never-3 c f r =
-    let p = c .sender in
-    let h = headerOf (c .packet) in
-    let bus = busOf (c .numbers) p in
-    let rule : Packet → Answer = λ k. packetRule k p bus (c .windows) (c .numbers) in
-    let never : Packet → Type 0 = λ k. rule k ≡ dropped 3 → ⊥ in
-    after-2 c 3 (omega arith)
-    (subst never (sym (flush-well-formed (c .packet) f r))
-    (either never (isRead (kind h))
-    (λ _ e. true≢false (subst (Late true) e (request-late true p bus h (c .windows) (c .numbers)) .0))
-    (λ _ e. let late : 5 ≤ 3 = subst (Late false) e (request-late false p bus h (c .windows) (c .numbers)) .1 in omega (arith, late))))
-
--- no read is dropped by 5 and above, whatever was read: 3 and 4 are dropped, and a write or a completion is no read
-read-answered : (s : List ℕ) (k : Packet) (p bus : ℕ) (windows numbers : List ℕ) (n : ℕ) → packetOf s ≡ k → isRead (kind (headerOf s)) ≡ true → 5 ≤ n
-    → packetRule k p bus windows numbers ≡ dropped n → ⊥
-read-answered s (Read h) p bus windows numbers n q r a e = true≢false (subst (Late true) e (request-late true p bus h windows numbers) .0)
-read-answered s (Write h) p bus windows numbers n q r a e = true≢false (sym r ∙ inverted-write (length s) (headerOf s) h q .1)
-read-answered s (Completion h) p bus windows numbers n q r a e =
-    two-kinds (kind (headerOf s)) (ap (λ (t : Bool). t || isWrite (kind (headerOf s))) r) (inverted-completion (length s) (headerOf s) h q .0 .completion)
-read-answered s (Broken f) p bus windows numbers n q r a e =
-    let same : ruleNumber f ≡ n = cc in
-    absurd (omega (arith, form-number f, same))
-
--- so a read that they refuse is answered
+-- no read is dropped by 5 to 9: it is answered by them
 pub refused-reads-answered : RefusedReadsAnswered
-refused-reads-answered c n r a =
-    after-2 c n (omega arith) (read-answered (c .packet) (packetOf (c .packet)) (c .sender) (busOf (c .numbers) (c .sender)) (c .windows) (c .numbers) n refl r a)
+refused-reads-answered c n r a b =
+    let h = headerOf (c .packet) in
+    let bus = busOf (c .numbers) (c .sender) in
+    let never : Answer → Type 0 = λ x. x ≡ dropped n → ⊥ in
+    past-2 c never (λ e. let same : 1 ≡ n = cc in omega (arith, same, a)) (λ e. let same : 2 ≡ n = cc in omega (arith, same, a))
+    (λ right up.
+    each-form (c .packet) (λ (k : Packet). never (packetRule k (c .sender) bus (c .windows) (c .numbers)))
+    (λ q _ e. let same : ruleNumber q ≡ n = cc in no-rule q n (omega (arith, b)) (λ z. omega (arith, z, a)) same)
+    (λ _ read e. true≢false (subst (Decided c true) e (request-decided c right up true (λ _. read)) .0))
+    (λ _ write _. true≢false (sym r ∙ write))
+    (λ _ completion _. two-kinds (kind h) (ap (λ (t : Bool). t || isWrite (kind h)) r) completion))
 
 -- what an answered call's answer is
 answers : (c : Call) (n : ℕ) (x : Sent) → answerOf c ≡ answered n x → Answers c n x

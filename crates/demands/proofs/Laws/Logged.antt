@@ -1,11 +1,12 @@
--- A refusal from 3 on has a log bit, 1 and 2 have none, and a bit that is recorded in a row of the table is set in its status.
+-- A refusal above 2 has a log bit, 31 to 36 have 18, 1 and 2 have none, and a bit that is recorded in a row of the table is set in its status.
 -- The column is read test by test; what is or-ed in with a power of two has that power's bit. Assumes nothing.
 use Prim.Native.Nat.{ℕ, zero, suc, _+_, _/_, _%_, _^_, _≤_, _<_}
 use mathlib.Core.Path.{_≡_, refl, sym, ap, _∙_}
+use mathlib.Core.Bool.{true, _&&_}
 use mathlib.Core.List.{List}
 use native.Mathlib.Omega.{arith}
 use native.Mathlib.Nat.{one-mul, mod-lt}
-use borrow.Author.Tests.{ltb-true, lt-ltb, le-leb}
+use borrow.Author.Tests.{ltb-true, lt-ltb, le-ltb, le-leb}
 use lib.Dec.{eqb, ltb, leb}
 use lib.ListN.{length, getD, set, length-set}
 use lib.Seq.{getD-set-same}
@@ -14,7 +15,8 @@ use lib.Pow.{pow-pos, shl-shr}
 use Rattle.header.specs.Pick.{pick}
 use Rattle.header.specs.Field.{field}
 use Rattle.header.specs.declared.words.Header.{Header}
-use Rattle.header.proofs.Laws.Pick.{hit, either}
+use Rattle.header.proofs.Laws.Join.{and-yes}
+use Rattle.header.proofs.Laws.Pick.{hit, pass, either}
 use Rattle.logs.specs.Logs.{rowWidth, rowAt, statusOf, bitMask, noted, recorded}
 use Rattle.logs.specs.declared.Bit.{Bit}
 use Rattle.logs.specs.declared.Bit.the-variants.{Poisoned, UnexpectedCompletion, Malformed, Unsupported}
@@ -55,7 +57,7 @@ unfolding logBit
 has-bit n h =
     let named : Logged → Type 0 = λ l. (b : Bit) × (l ≡ Under b) in
     either named (ltb n 3) (λ e. absurd (let k = ltb-true n 3 e in omega arith))
-    (λ _. either named (eqb n 3) (λ _. (Malformed, refl))
+    (λ _. either named (leb 31 n && leb n 36) (λ _. (Malformed, refl))
     (λ _. either named (eqb n 5) (λ _. (Poisoned, refl))
     (λ _. either named (eqb n 9) (λ _. (UnexpectedCompletion, refl)) (λ _. (Unsupported, refl)))))
 
@@ -63,3 +65,11 @@ has-bit n h =
 pub no-bit : (n : ℕ) → n < 3 → logBit n ≡ No
 unfolding logBit
 no-bit n h = sym (hit (ltb n 3) No _ (lt-ltb n 3 h) refl)
+
+-- 31 to 36 have 18
+pub malformed : (n : ℕ) → 31 ≤ n → n ≤ 36 → logBit n ≡ Under Malformed
+unfolding logBit
+malformed n a b =
+    sym
+    (pass (ltb n 3) No _ (le-ltb n 3 (omega (arith, a)))
+    (hit (leb 31 n && leb n 36) (Under Malformed) _ (sym (and-yes (leb 31 n) (leb n 36) true (le-leb 31 n a) (sym (le-leb n 36 b)))) refl))

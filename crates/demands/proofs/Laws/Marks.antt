@@ -39,7 +39,7 @@ use Rattle.demands.specs.Call.{Call, answerOf}
 use Rattle.demands.specs.Marks.{isMarked, MarkKept, NoMarkCrosses, Is5, RequestStopped, CompletionStopped, FiveOnlyThere}
 use Rattle.demands.proofs.Laws.CameOut.{request-form, request-kind, crossed-sort, came-out-whole}
 use Rattle.demands.proofs.Laws.Crossing.{IsRequest, IsCompletion, before-packet, request-crossed, completion-crossed}
-use Rattle.demands.proofs.Laws.Forms.{form-number, each-form}
+use Rattle.demands.proofs.Laws.Forms.{no-rule, each-form}
 use Rattle.demands.proofs.Laws.Outgoing.{sent-marked}
 use Rattle.demands.proofs.Laws.Settled.{passed-by}
 
@@ -181,9 +181,9 @@ five-only-there c =
     either (Why5 c) (wrongCall p (length (c .windows)) (length (c .numbers)) (length (c .logs)) (length (c .out))) (λ _ e. absurd (omega (arith, e)))
     (λ _. either (Why5 c) (not (isActive (c .numbers) p)) (λ _ e. absurd (omega (arith, e)))
     (λ _.
-    each-form (λ (k : Packet). packetOf (c .packet) ≡ k → Why5 c (rule k)) (length (c .packet)) (headerOf (c .packet))
-    (λ r _ e. absurd (omega (arith, form-number r, e)))
-    (λ _ q. request-why c true (inl q))
-    (λ q. request-why c false (inr q))
-    (λ q. completion-why c q)
+    each-form (c .packet) (λ (k : Packet). packetOf (c .packet) ≡ k → Why5 c (rule k))
+    (λ r _ _ e. absurd (no-rule r 5 (omega arith) (λ z. omega (arith, z)) e))
+    (λ _ _ q. request-why c true (inl q))
+    (λ _ _ q. request-why c false (inr q))
+    (λ _ _ q. completion-why c q)
     refl))

@@ -1,5 +1,5 @@
 -- The rule that settles it, for every call: what crossed passed by an open window and a filled entry, and no log changed; what was
--- refused stayed at home, and from 3 on it is logged there and nowhere else.
+-- refused stayed at home, and but for 1 and 2 it is logged there and nowhere else.
 -- The crossing's own tests name the window and the entry; the log's laws say what a refusal leaves. Assumes nothing.
 use Prim.Native.Nat.{ℕ, _/_, _%_, _≤_}
 use mathlib.Core.Path.{_≡_, refl, sym, ap, _∙_}
@@ -104,11 +104,11 @@ pub passed-by : (c : Call) (x : Sent) → answerOf c ≡ crossed x → RequestPa
 passed-by c x e =
     let rule : Packet → Answer = λ k. packetRule k (c .sender) (busOf (c .numbers) (c .sender)) (c .windows) (c .numbers) in
     let b = before-packet (c .sender) (c .packet) (c .windows) (c .numbers) (length (c .logs)) (length (c .out)) x e in
-    each-form (λ (k : Packet). packetOf (c .packet) ≡ k → RequestPassed c x ⊎ CompletionPassed c x) (length (c .packet)) (headerOf (c .packet))
-    (λ r q. absurd (let d : dropped (ruleNumber r) ≡ crossed x = ap rule (sym q) ∙ b .2 in let z : _≡_ {A = ℕ} 0 1 = cc in omega arith))
-    (λ _ q. inl (request-passed c x (inl q) e))
-    (λ q. inl (request-passed c x (inr q) e))
-    (λ q. inr (completion-passed c x q e))
+    each-form (c .packet) (λ (k : Packet). packetOf (c .packet) ≡ k → RequestPassed c x ⊎ CompletionPassed c x)
+    (λ r _ q. absurd (let d : dropped (ruleNumber r) ≡ crossed x = ap rule (sym q) ∙ b .2 in let z : _≡_ {A = ℕ} 0 1 = cc in omega arith))
+    (λ _ _ q. inl (request-passed c x (inl q) e))
+    (λ _ _ q. inl (request-passed c x (inr q) e))
+    (λ _ _ q. inr (completion-passed c x q e))
     refl
 
 -- what was refused by n, in the logs that n leaves
@@ -139,4 +139,4 @@ settles c = by-answer (answerOf c) refl refl (listed c)
     by-answer : (a : Answer) → answerOf c ≡ a → logsOf c ≡ logsAfter a (c .sender) (c .packet) (c .logs) → Listed c a → Fate c a
     by-answer (crossed x) e k l = (passed-by c x e, k)
     by-answer (answered n x) e k l = at-home c n k (λ _. l .right)
-    by-answer (dropped n) e k l = at-home c n k (l .2)
+    by-answer (dropped n) e k l = at-home c n k (l .1)

@@ -1,4 +1,4 @@
--- Cases A to M of the exam sheet, as one table: the rule, computed at each case, gives its answer, writes its bytes over any Out
+-- Cases A to N of the exam sheet, as one table: the rule, computed at each case, gives its answer, writes its bytes over any Out
 -- that is long enough, and leaves its logs. By computation; an Out's length matters only in being long enough. Assumes nothing.
 use Prim.Native.Nat.{ℕ, _≤_}
 use mathlib.Core.Path.{_≡_, refl, ap, _∙_, sym}

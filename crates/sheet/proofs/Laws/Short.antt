@@ -1,4 +1,4 @@
--- Case K for every packet of fewer than 12 bytes from partition 1, over any Out that is long enough: 3, and the row holds the words
+-- Case K for every packet of fewer than 12 bytes from partition 1, over any Out that is long enough: 31, and the row holds the words
 -- of what came, with missing bytes as 0. The length is the first test of form; the rest is computed on the sheet's tables.
 -- Assumes nothing.
 use Prim.Native.Nat.{ℕ, _≤_, _<_}
@@ -39,8 +39,8 @@ no-fourth s l =
 
 -- K, whatever the bytes are
 pub too-short : (s : List ℕ) → length s < 12 → (out : ℕ) → 4112 ≤ out
-    → (passRule 1 s windows numbers 96 out ≡ dropped 3)
-    × (logsAfter (dropped 3) 1 s logs ≡ logsWith 1 (0x00040000 ∷ 18 ∷ wordAt s 0 ∷ wordAt s 4 ∷ wordAt s 8 ∷ 0 ∷ []))
+    → (passRule 1 s windows numbers 96 out ≡ dropped 31)
+    × (logsAfter (dropped 31) 1 s logs ≡ logsWith 1 (0x00040000 ∷ 18 ∷ wordAt s 0 ∷ wordAt s 4 ∷ wordAt s 8 ∷ 0 ∷ []))
 unfolding pick noted recorded logBit passRule windows numbers logs
 too-short s l out h = (
   long-enough 1 s windows numbers 96 out h ∙ ap (λ (k : Packet). packetRule k 1 (busOf numbers 1) windows numbers) (short-form s l),

@@ -5,8 +5,9 @@ use mathlib.Core.Path.{_≡_, refl, sym, ap, _∙_}
 use native.Mathlib.Omega.{arith}
 use lib.Dec.{eqb}
 use Rattle.header.specs.Pick.{pick}
+use Rattle.tlp.specs.declared.form.Rule.the-variants.{TooShort, NotCarried, WrongLength, Enables, Contiguity, PageCrossing, ZeroHighWord}
 use Rattle.switch.specs.declared.answer.Refusal.{Refusal}
-use Rattle.switch.specs.declared.answer.Refusal.the-variants.{WrongCall, SenderInactive, Form, NotCarried, Poisoned, NoWindow, NoEntry, DestinationInactive, NotPassable}
+use Rattle.switch.specs.declared.answer.Refusal.the-variants.{WrongCall, SenderInactive, Broken, Poisoned, NoWindow, NoEntry, DestinationInactive, NotPassable}
 use Rattle.switch.specs.declared.answer.Outcome.{Outcome}
 use Rattle.switch.specs.declared.answer.Outcome.the-variants.{Crossed, Answered, Dropped}
 use Rattle.switch.specs.Answer.{refusalNumber, onPaper}
@@ -16,19 +17,29 @@ abbrev ofNumber : ℕ → Refusal
 ofNumber n =
     pick (eqb n 1) WrongCall
     (pick (eqb n 2) SenderInactive
-    (pick (eqb n 3) Form
-    (pick (eqb n 4) NotCarried
+    (pick (eqb n 4) (Broken NotCarried)
     (pick (eqb n 5) Poisoned
     (pick (eqb n 6) NoWindow
     (pick (eqb n 7) NoEntry
-    (pick (eqb n 8) DestinationInactive NotPassable)))))))
+    (pick (eqb n 8) DestinationInactive
+    (pick (eqb n 9) NotPassable
+    (pick (eqb n 31) (Broken TooShort)
+    (pick (eqb n 32) (Broken WrongLength)
+    (pick (eqb n 33) (Broken Enables)
+    (pick (eqb n 34) (Broken Contiguity)
+    (pick (eqb n 35) (Broken PageCrossing) (Broken ZeroHighWord)))))))))))))
 
 led-back : (r : Refusal) → ofNumber (refusalNumber r) ≡ r
 unfolding pick
 led-back WrongCall = refl
 led-back SenderInactive = refl
-led-back Form = refl
-led-back NotCarried = refl
+led-back (Broken TooShort) = refl
+led-back (Broken NotCarried) = refl
+led-back (Broken WrongLength) = refl
+led-back (Broken Enables) = refl
+led-back (Broken Contiguity) = refl
+led-back (Broken PageCrossing) = refl
+led-back (Broken ZeroHighWord) = refl
 led-back Poisoned = refl
 led-back NoWindow = refl
 led-back NoEntry = refl

@@ -34,23 +34,35 @@ module _ (h : Header) (one : dwords h ≡ 1) (first : firstEnables h ≡ 0) wher
   unfolding pick
   flush-lower = ap (λ (e : ℕ). place 2 (field 2 5 (address h)) + lowest e) first ∙ add-zero (place 2 (field 2 5 (address h)))
 
-  -- "3 no longer for this": of the rules of form only those remain that look at no enables
+  -- no enables are broken where the last are 0 too
+  pub flush-enables : lastEnables h ≡ 0 → enablesBroken h ≡ false
+  unfolding pick
+  flush-enables last =
+      ap (λ (k : ℕ). pick (eqb k 1) (not (eqb (lastEnables h) 0)) (eqb (firstEnables h) 0 || eqb (lastEnables h) 0)) one
+      ∙ ap (λ (e : ℕ). not (eqb e 0)) last
+
+  -- no contiguity is asked of one dword
+  pub flush-contiguous : contiguityBroken h ≡ false
+  flush-contiguous =
+      ap
+      (λ (k : ℕ). not (eqb k 1 || (eqb k 2 && eqb (address h % 2 ^ 3) 0)) && not (reachesUp (firstEnables h) && reachesDown (lastEnables h)))
+      one
+
+  -- and it crosses no page
+  pub flush-paged : crossesPage h ≡ false
+  flush-paged = le-ltb (2 ^ 12) (address h % 2 ^ 12 + 4 * dwords h) (rw one (one-in-page (highWord h) (field 2 30 (lowWord h))))
+
+  -- so of the rules of form only those remain that look at no enables, no gaps and no page
   pub flush-form : (n : ℕ) → lastEnables h ≡ 0 → tooShort n ≡ false → notCarried h ≡ false → wrongLength n h ≡ false → isCompletion (kind h) ≡ false
       → zeroHighWord h ≡ false → WellFormed n h
-  unfolding pick
   flush-form n last long carried whole request high =
       record {
         long = long;
         carried = carried;
         whole = whole;
         request = request;
-        enables =
-            ap (λ (k : ℕ). pick (eqb k 1) (not (eqb (lastEnables h) 0)) (eqb (firstEnables h) 0 || eqb (lastEnables h) 0)) one
-            ∙ ap (λ (e : ℕ). not (eqb e 0)) last;
-        contiguous =
-            ap
-            (λ (k : ℕ). not (eqb k 1 || (eqb k 2 && eqb (address h % 2 ^ 3) 0)) && not (reachesUp (firstEnables h) && reachesDown (lastEnables h)))
-            one;
-        paged = le-ltb (2 ^ 12) (address h % 2 ^ 12 + 4 * dwords h) (rw one (one-in-page (highWord h) (field 2 30 (lowWord h))));
+        enables = flush-enables last;
+        contiguous = flush-contiguous;
+        paged = flush-paged;
         high = high;
       }

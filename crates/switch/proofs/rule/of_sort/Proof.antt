@@ -1,7 +1,5 @@
 -- By the sort: a request, a completion, or a rule that broke. Assumes nothing.
 use borrow.Author.Needs.{needs}
-use mathlib.Core.Path.{ap}
-use Rattle.switch.specs.Answer.{dropped}
 use Rattle.switch.proofs.rule.of_sort.Statement.{statement}
 use Rattle.switch.proofs.rule.of_sort.Tie as tie
 
@@ -20,9 +18,6 @@ completion-requires c κs = search needs
 enum-known-sort-3 : tie.Need-enum-known-sort-3
 enum-known-sort-3 c = search needs
 
-broken-requires : tie.Need-broken-requires
-broken-requires c κs = search needs
-
 returns : tie.Need-returns
 returns c = rw (c .before .before .sort .given .1) (c .request .ensures)
 
@@ -30,7 +25,7 @@ returns-2 : tie.Need-returns-2
 returns-2 c = rw (c .before .before .sort2 .given .1) (c .completion .ensures)
 
 returns-3 : tie.Need-returns-3
-returns-3 c = rw (c .before .before .sort3 .given .1) (ap dropped (c .broken .ensures))
+returns-3 c = rw (c .before .sort3 .given .1)
 
 pub of-sort-spec : {M : Type 1} → statement M
 of-sort-spec =
@@ -41,7 +36,6 @@ of-sort-spec =
     enum-known-sort-2
     completion-requires
     enum-known-sort-3
-    broken-requires
     returns
     returns-2
     returns-3)

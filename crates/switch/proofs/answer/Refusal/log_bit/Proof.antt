@@ -1,4 +1,4 @@
--- By the refusal: the list's column is read at its number. Assumes nothing.
+-- By the refusal: the list's column is read at its number, of a rule that broke by its own function. Assumes nothing.
 use borrow.Author.Needs.{needs}
 use Rattle.header.specs.Pick.{pick}
 use Rattle.switch.specs.After.{logBit}
@@ -10,6 +10,12 @@ enum-told c = search needs
 
 enum-told-2 : tie.Need-enum-told-2
 enum-told-2 c = search needs
+
+enum-known-self : tie.Need-enum-known-self
+enum-known-self c = search needs
+
+rule-bit-requires : tie.Need-rule-bit-requires
+rule-bit-requires c κs = search needs
 
 enum-told-3 : tie.Need-enum-told-3
 enum-told-3 c = search needs
@@ -26,12 +32,6 @@ enum-told-6 c = search needs
 enum-told-7 : tie.Need-enum-told-7
 enum-told-7 c = search needs
 
-enum-told-8 : tie.Need-enum-told-8
-enum-told-8 c = search needs
-
-enum-told-9 : tie.Need-enum-told-9
-enum-told-9 c = search needs
-
 returns : tie.Need-returns
 unfolding logBit pick
 returns c = rw (c .enum-told .given .1)
@@ -41,32 +41,27 @@ unfolding logBit pick
 returns-2 c = rw (c .enum-told2 .given .1)
 
 returns-3 : tie.Need-returns-3
-unfolding logBit pick
-returns-3 c = rw (c .enum-told3 .given .1)
+returns-3 c = rw (c .before .before .self .given .1) (c .rule-bit .ensures)
 
 returns-4 : tie.Need-returns-4
 unfolding logBit pick
-returns-4 c = rw (c .enum-told4 .given .1)
+returns-4 c = rw (c .enum-told3 .given .1)
 
 returns-5 : tie.Need-returns-5
 unfolding logBit pick
-returns-5 c = rw (c .enum-told5 .given .1)
+returns-5 c = rw (c .enum-told4 .given .1)
 
 returns-6 : tie.Need-returns-6
 unfolding logBit pick
-returns-6 c = rw (c .enum-told6 .given .1)
+returns-6 c = rw (c .enum-told5 .given .1)
 
 returns-7 : tie.Need-returns-7
 unfolding logBit pick
-returns-7 c = rw (c .enum-told7 .given .1)
+returns-7 c = rw (c .enum-told6 .given .1)
 
 returns-8 : tie.Need-returns-8
 unfolding logBit pick
-returns-8 c = rw (c .enum-told8 .given .1)
-
-returns-9 : tie.Need-returns-9
-unfolding logBit pick
-returns-9 c = rw (c .enum-told9 .given .1)
+returns-8 c = rw (c .enum-told7 .given .1)
 
 pub log-bit-spec : {M : Type 1} → statement M
 log-bit-spec =
@@ -74,13 +69,13 @@ log-bit-spec =
     (tie.spec
     enum-told
     enum-told-2
+    enum-known-self
+    rule-bit-requires
     enum-told-3
     enum-told-4
     enum-told-5
     enum-told-6
     enum-told-7
-    enum-told-8
-    enum-told-9
     returns
     returns-2
     returns-3
@@ -88,5 +83,4 @@ log-bit-spec =
     returns-5
     returns-6
     returns-7
-    returns-8
-    returns-9)
+    returns-8)
