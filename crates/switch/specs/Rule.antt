@@ -1,4 +1,4 @@
--- "Passing a packet from partition p": the decision, in the list's order, as R-3 amends it, and numbers.
+-- "Passing a packet from partition p": the decision, in the list's order and numbers, as R-3 and R-4 amend them.
 use Prim.Native.Nat.{ℕ, _+_, _*_, _/_, _%_}
 use mathlib.Core.Bool.{Bool, true, false, not, _&&_, _||_}
 use mathlib.Core.List.{List}

@@ -1,4 +1,4 @@
-// "Passing a packet from partition p": the decision, in the list's order, as R-3 amends it. It only reads.
+// "Passing a packet from partition p": the decision, in the list's order, as R-3 and R-4 amend it. It only reads.
 ghost use mathlib.Core.Path.{_≡_};
 ghost use mathlib.Core.Bool.{Bool, true};
 ghost use mathlib.Core.List.{List};

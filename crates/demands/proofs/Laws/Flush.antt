@@ -4,7 +4,7 @@
 -- enables or the data. Assumes nothing.
 use Prim.Native.Nat.{ℕ, _+_, _*_, _%_, _^_, _≤_}
 use mathlib.Core.Path.{_≡_, refl, sym, ap, _∙_, subst}
-use mathlib.Core.Bool.{Bool, true, false, not, _||_, true≢false}
+use mathlib.Core.Bool.{Bool, true, false, _||_, true≢false}
 use mathlib.Core.List.{List}
 use native.Mathlib.Omega.{arith}
 use borrow.Author.Tests.{eqb-true, eqb-false, not-false}
@@ -15,7 +15,7 @@ use Rattle.header.specs.Pick.{pick}
 use Rattle.header.specs.Field.{field}
 use Rattle.header.specs.Kind.{isRead, isWrite, isCompletion, headerBytes}
 use Rattle.header.specs.Words.{headerOf}
-use Rattle.header.specs.Fields.{kind, dwords, dataBytes, totalBytes, requesterId, address, byteCountField, lowerAddressField}
+use Rattle.header.specs.Fields.{kind, dwords, dataBytes, totalBytes, address, byteCountField, lowerAddressField}
 use Rattle.header.specs.Rewrite.{readdressed, renamed}
 use Rattle.header.specs.declared.words.Header.{Header}
 use Rattle.header.proofs.Laws.Join.{both}
@@ -31,12 +31,12 @@ use Rattle.tlp.proofs.Laws.Form.{WellFormed, accepted, inverted, moved-read, cr
 use Rattle.tlp.proofs.Laws.Write.{length-header}
 use Rattle.numbers.specs.Buses.{busOf}
 use Rattle.switch.specs.declared.answer.Sent.{Sent}
-use Rattle.switch.specs.Answer.{Answer, crossed, answered, dropped}
+use Rattle.switch.specs.Answer.{Answer, answered, dropped}
 use Rattle.switch.specs.Rule.{busId, mappedId, packetRule}
 use Rattle.switch.specs.After.{dataOf}
-use Rattle.demands.specs.Call.{Call, answerOf, cameOut, isRequest, Lent}
+use Rattle.demands.specs.Call.{Call, answerOf, cameOut, isRequest}
 use Rattle.demands.specs.Rules.{ofRequests, breaks}
-use Rattle.demands.specs.Flush.{Flush, FlushWellFormed, FlushNever33To35, RefusedReadsAnswered, FlushAnswered, FlushCameOut, FlushCrosses}
+use Rattle.demands.specs.Flush.{FlushWellFormed, FlushNever33To35, RefusedReadsAnswered, FlushAnswered, FlushCrosses}
 use Rattle.demands.proofs.Laws.CameOut.{request-kind, crossed-request, request-form, came-out-whole}
 use Rattle.demands.proofs.Laws.Crossing.{Through, request-crossed}
 use Rattle.demands.proofs.Laws.Forms.{no-rule, two-kinds, each-form}

@@ -10,8 +10,7 @@ use mathlib.Core.Logic.{_⊎_, inl, inr, ⊎-elim}
 use native.Mathlib.Omega.{arith}
 use borrow.Author.Tests.{ltb-true, ltb-false, not-false}
 use lib.Dec.{eqb, ltb}
-use lib.ListN.{length}
-use Rattle.header.specs.Pick.{pick}
+use lib.ListN.{length, getD}
 use Rattle.header.specs.Kind.{isRead, isWrite, isCompletion, isCarried}
 use Rattle.header.specs.Words.{headerOf}
 use Rattle.header.specs.Fields.{kind, hasDigest, addressType}
@@ -23,7 +22,7 @@ use Rattle.tlp.specs.declared.form.Rule.the-variants.{TooShort, NotCarried, Wro
 use Rattle.tlp.specs.declared.form.Packet.{Packet}
 use Rattle.tlp.specs.declared.form.Packet.the-variants.{Read, Write, Completion, Broken}
 use Rattle.demands.specs.Call.{isRequest}
-use Rattle.demands.specs.Rules.{ofRequests, breaks, rank, FirstBroken}
+use Rattle.demands.specs.Rules.{ofRequests, breaks, rank, rules, FirstBroken}
 use Rattle.demands.proofs.Laws.Bytes.{of-completions}
 
 -- a rule of form has the number 4, or one of 31 to 36
@@ -40,18 +39,11 @@ form-number ZeroHighWord = inr (omega arith)
 pub no-rule : (r : Rule) (n : ℕ) → n < 31 → (n ≡ 4 → ⊥) → ruleNumber r ≡ n → ⊥
 no-rule r n l f e = ⊎-elim (λ s. f (sym e ∙ s)) (λ s. omega (arith, s, e, l)) (form-number r)
 
--- the rule of a rank
+-- the list of all rules has each at its rank
 abbrev ofRank : ℕ → Rule
-ofRank n =
-    pick (eqb n 0) TooShort
-    (pick (eqb n 1) NotCarried
-    (pick (eqb n 2) WrongLength
-    (pick (eqb n 3) Enables
-    (pick (eqb n 4) Contiguity
-    (pick (eqb n 5) PageCrossing ZeroHighWord)))))
+ofRank n = getD rules n TooShort
 
 rank-led-back : (r : Rule) → ofRank (rank r) ≡ r
-unfolding pick
 rank-led-back TooShort = refl
 rank-led-back NotCarried = refl
 rank-led-back WrongLength = refl

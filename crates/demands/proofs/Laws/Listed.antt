@@ -1,7 +1,7 @@
 -- A refusal is one of the list's: a read alone is answered, by 5 to 8 and with the answer to it, and what is dropped is dropped by
 -- 1, 2, a number of form or 5 to 9; and but for 1 and 2 the call is right. By the rule, definition by definition: each answers so, or as
 -- the next does. Assumes nothing.
-use Prim.Native.Nat.{ℕ, _/_, _%_, _≤_, _<_}
+use Prim.Native.Nat.{ℕ, _/_, _%_, _≤_}
 use mathlib.Core.Path.{_≡_, refl, sym}
 use mathlib.Core.Bool.{Bool, true, false, not, true≢false}
 use mathlib.Core.Logic.{_⊎_, inl, inr, ⊎-elim}

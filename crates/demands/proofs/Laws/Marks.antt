@@ -11,11 +11,11 @@ use borrow.Author.Tests.{eqb-true, not-true, not-false}
 use lib.Dec.{eqb}
 use lib.ListN.{length}
 use Rattle.header.specs.Words.{headerOf}
-use Rattle.header.specs.Fields.{kind, isPoisoned, requesterId, address, completionRequesterId}
+use Rattle.header.specs.Fields.{isPoisoned, requesterId, address, completionRequesterId}
 use Rattle.header.specs.declared.words.Header.{Header}
 use Rattle.header.proofs.Laws.Join.{both}
 use Rattle.header.proofs.Laws.Pick.{either}
-use Rattle.tlp.specs.Form.{packetOf, ruleNumber}
+use Rattle.tlp.specs.Form.{packetOf}
 use Rattle.tlp.specs.declared.form.Packet.{Packet}
 use Rattle.tlp.proofs.Laws.Form.{inverted-completion}
 use Rattle.windows.specs.Row.{rowOf, passesMarked}
@@ -33,13 +33,14 @@ use Rattle.numbers.specs.declared.entries.Entry.the-variants.{Free, Held}
 use Rattle.numbers.specs.declared.entries.Found.{Found}
 use Rattle.numbers.specs.declared.entries.Found.the-variants.{Nothing, At}
 use Rattle.switch.specs.declared.answer.Sent.{Sent}
-use Rattle.switch.specs.Answer.{Answer, crossed}
-use Rattle.switch.specs.Rule.{wrongCall, mappedId, refused, toDestination, throughEntry, isStopped, throughMark, throughWindow, requestRule, isPassable, toOwner, throughHeld, completionRule, packetRule, passRule}
-use Rattle.demands.specs.Call.{Call, answerOf}
+use Rattle.switch.specs.Answer.{Answer}
+use Rattle.switch.specs.Rule.{mappedId, refused, toDestination, throughEntry, isStopped, throughMark, throughWindow, requestRule, isPassable, toOwner, throughHeld, completionRule, packetRule}
+use Rattle.demands.specs.Call.{Call}
 use Rattle.demands.specs.Marks.{isMarked, MarkKept, NoMarkCrosses, Is5, RequestStopped, CompletionStopped, FiveOnlyThere}
 use Rattle.demands.proofs.Laws.CameOut.{request-form, request-kind, crossed-sort, came-out-whole}
 use Rattle.demands.proofs.Laws.Crossing.{IsRequest, IsCompletion, before-packet, request-crossed, completion-crossed}
 use Rattle.demands.proofs.Laws.Forms.{no-rule, each-form}
+use Rattle.demands.proofs.Laws.Listed.{past-2}
 use Rattle.demands.proofs.Laws.Outgoing.{sent-marked}
 use Rattle.demands.proofs.Laws.Settled.{passed-by}
 
@@ -173,17 +174,13 @@ completion-why c k =
 
 -- every call's answer
 pub five-only-there : FiveOnlyThere
-unfolding passRule
 five-only-there c =
-    let p = c .sender in
-    let bus = busOf (c .numbers) p in
-    let rule : Packet → Answer = λ k. packetRule k p bus (c .windows) (c .numbers) in
-    either (Why5 c) (wrongCall p (length (c .windows)) (length (c .numbers)) (length (c .logs)) (length (c .out))) (λ _ e. absurd (omega (arith, e)))
-    (λ _. either (Why5 c) (not (isActive (c .numbers) p)) (λ _ e. absurd (omega (arith, e)))
-    (λ _.
+    let rule : Packet → Answer = λ k. packetRule k (c .sender) (busOf (c .numbers) (c .sender)) (c .windows) (c .numbers) in
+    past-2 c (Why5 c) (λ e. absurd (omega (arith, e))) (λ e. absurd (omega (arith, e)))
+    (λ _ _.
     each-form (c .packet) (λ (k : Packet). packetOf (c .packet) ≡ k → Why5 c (rule k))
     (λ r _ _ e. absurd (no-rule r 5 (omega arith) (λ z. omega (arith, z)) e))
     (λ _ _ q. request-why c true (inl q))
     (λ _ _ q. request-why c false (inr q))
     (λ _ _ q. completion-why c q)
-    refl))
+    refl)

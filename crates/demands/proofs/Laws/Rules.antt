@@ -28,7 +28,7 @@ use Rattle.switch.specs.declared.after.Logged.the-variants.{Under}
 use Rattle.switch.specs.Answer.{Answer, dropped}
 use Rattle.switch.specs.Rule.{wrongCall, packetRule, passRule}
 use Rattle.switch.proofs.Laws.Paper.{number-determines}
-use Rattle.demands.specs.Call.{Call, answerOf, logsOf}
+use Rattle.demands.specs.Call.{Call}
 use Rattle.demands.specs.Settled.{Fate}
 use Rattle.demands.specs.Rules.{breaks, FirstBroken, LayerNamesFirst, WellFormedBreaksNone, NumberNamesRule, RuleGivesNumber, ShortBreaksLength, Bit18Stays}
 use Rattle.demands.proofs.Laws.Forms.{no-rule, rank-lt, KeptTo, one-first, each-form}

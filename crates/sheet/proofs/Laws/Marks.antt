@@ -20,7 +20,7 @@ use Rattle.numbers.specs.Entries.{lookAt}
 use Rattle.switch.specs.declared.answer.Sent.{Sent}
 use Rattle.switch.specs.Answer.{crossed, dropped}
 use Rattle.switch.specs.Rule.{toDestination, throughMark, requestRule, toOwner, completionRule, passRule}
-use Rattle.demands.specs.Call.{Call, Lent, answerOf, cameOut}
+use Rattle.demands.specs.Call.{Call, answerOf, cameOut}
 use Rattle.demands.specs.Demand3.{ComesBack}
 use Rattle.demands.specs.Marks.{isMarked}
 use Rattle.demands.proofs.Laws.Marks.{mark-kept}
