@@ -1,6 +1,7 @@
 /*
  * Siphonpear for C and C++: a software PCI Express switch with sixteen partitions. docs/RULES.md has all the rules; this file
- * has every call, what it returns, and what becomes of each buffer.
+ * has every call, what it returns, and what becomes of each buffer. The shortest way is to keep the tables in a struct
+ * siphon_switch, and to make the calls on it that stand at the end of this file: siphon_switch_pass and seven more.
  *
  * Each call takes every input: a partition that does not exist, a cut packet, a table of random words, a buffer that is too
  * short. It always ends, reads and writes only the buffers that it is lent, and returns 0 or the number of a refusal. Each is
@@ -70,37 +71,18 @@ extern "C" {
 #define SIPHON_LOG_UNSUPPORTED 20           /* refusals 4, 6, 7 and 8 */
 
 /*
+ * The eight calls of the library. A program makes them itself if it keeps the tables elsewhere than in a struct siphon_switch:
+ * each in a place of its own, or in memory that something else lays out.
+ */
+
+/*
  * Passes a packet that partition p sends: its header, then its data, in the order of the wire, and nothing else.
  *
- * Returns 0 if it crossed, else the refusal: 1, 2, 4 to 9 or 31 to 36. It is the first that strikes, in this order.
+ * Returns 0 if it crossed, else the first refusal that strikes: 1, 2, 4 to 9 or 31 to 36. docs/RULES.md has their order, in
+ * section 6, and in sections 4 and 5 when each strikes; 1 is first, and is about this call:
  *   1   answer_length under 8; p above 15; windows_length not 768, numbers_length not 80, logs_length not 96; out_length
  *       under 4112
- *   2   p is inactive
- *   31  the packet has fewer than 12 bytes, of whatever kind
- *   4   a kind that is not carried, TD set, or AT not 0
- *   32  packet_length is not what the first word makes it: 12, or 16 with a 64-bit address, and 4 * Length more for a write
- *       or a completion with data. Length is bits 9:0 of the first word, and 0 there stands for 1024
- * then for a request, where bits 3:0 of the second word are the first enables and bits 7:4 the last enables: which bytes of
- * its first and of its last dword are meant, bit n for byte n; the lowest two bits of the address count as 0
- *   33  Length 1, and the last enables are not 0; the first may be 0, which is a flush. Or Length above 1, and the first or
- *       the last are 0
- *   34  Length above 1, and there is a gap between the bytes that are meant: the first enables are none of 1111, 1110, 1100
- *       and 1000, or the last none of 0001, 0011, 0111 and 1111. Gaps are allowed at Length 2 where the address is a multiple
- *       of 8
- *   35  (address % 4096) + 4 * Length is above 4096: it runs past the end of its 4 KiB page
- *   36  its header is for a 64-bit address, and the high word is 0
- *   6   no window of p covers the address
- *   5   it is marked, and its window, the lowest slot in force that covers the address, lets no marked packet pass
- *   7   no entry of p holds the requester ID
- *   8   the window leads to an inactive partition
- * or for a completion
- *   9   no way back: the requester ID leads to no entry that is held; the owner of the entry is p itself, is inactive, or
- *       has no window to p
- *   5   it is marked, and no window of the owner to p lets marked packets pass; one that does is enough, in any slot
- *
  * A read that 5, 6, 7 or 8 refuses is answered. Whatever else is refused is dropped.
- *
- * A marked packet that crosses stays marked, and is not logged. Packets that are not marked pass through windows of both sorts.
  *
  * answer: the first eight words are written, and words beyond them stay.
  *   0     SIPHON_CROSSED, SIPHON_ANSWERED or SIPHON_DROPPED
@@ -110,7 +92,7 @@ extern "C" {
  *   4..7  these header words; the last is 0 where there are three
  *   If the packet was dropped, words 1 to 7 are 0. If answer_length is under 8, nothing is written, and no other buffer changes.
  * out: what came out, from the start: as many bytes as word 2 of the answer says. Bytes beyond them stay, and all of them stay
- *   if the packet was dropped.
+ *   if the packet was dropped. A marked packet that crosses comes out marked.
  * logs: all refusals but 1 and 2 are logged in the row of p, which begins at logs[6 * p], whether the packet was answered or
  *   dropped. If the status was 0, first error becomes the number of the bit, and the header words those of the packet. Then
  *   the bit is set in the status. All else stays: crossings and refusals 1 and 2 are not logged.
@@ -180,6 +162,82 @@ uint32_t siphon_make_inactive(uint32_t p, uint32_t *numbers, size_t numbers_leng
  *   1   p above 15, logs_length not 96
  */
 uint32_t siphon_clear_log(uint32_t p, uint32_t ones, uint32_t *logs, size_t logs_length);
+
+/*
+ * A switch: all the tables, each of its length. It begins idle, with every partition inactive and every other word 0, in a
+ * function or as a static:
+ *   struct siphon_switch s = SIPHON_SWITCH_IDLE;
+ * Make one call at a time on a switch.
+ */
+struct siphon_switch {
+    uint64_t windows[SIPHON_WINDOWS];
+    uint32_t numbers[SIPHON_NUMBERS];
+    uint32_t logs[SIPHON_LOGS];
+};
+
+/* Sixteen words, all x; and an idle switch, a line for each field in their order. */
+#define SIPHON_16(x) x, x, x, x, x, x, x, x, x, x, x, x, x, x, x, x
+#define SIPHON_SWITCH_IDLE                                                                                        \
+    {                                                                                                             \
+        {0},                                                                      /* windows: none */             \
+        {SIPHON_16(0), SIPHON_16(0), SIPHON_16(0), SIPHON_16(0), SIPHON_16(256)}, /* numbers: no entry, no bus */ \
+        {0},                                                                      /* logs: no error */            \
+    }
+
+/*
+ * The calls on a switch. siphon_switch_NAME has the parameters of siphon_NAME without the tables, lends it those of s, and
+ * returns what it returns. These eight are plain C, and not proved: each is one statement.
+ */
+
+static inline uint32_t siphon_switch_pass(struct siphon_switch *s, uint32_t p,
+                                          const uint8_t *packet, size_t packet_length,
+                                          uint8_t *out, size_t out_length,
+                                          uint32_t *answer, size_t answer_length)
+{
+    return siphon_pass(p,
+                       packet, packet_length,
+                       s->windows, SIPHON_WINDOWS,
+                       s->numbers, SIPHON_NUMBERS,
+                       s->logs, SIPHON_LOGS,
+                       out, out_length,
+                       answer, answer_length);
+}
+
+static inline uint32_t siphon_switch_set_window(struct siphon_switch *s, uint32_t p, uint32_t slot, uint64_t base,
+                                                uint64_t target, uint32_t k, uint32_t q, uint32_t marked)
+{
+    return siphon_set_window(p, slot, base, target, k, q, marked, s->windows, SIPHON_WINDOWS);
+}
+
+static inline uint32_t siphon_switch_empty_window(struct siphon_switch *s, uint32_t p, uint32_t slot)
+{
+    return siphon_empty_window(p, slot, s->windows, SIPHON_WINDOWS);
+}
+
+static inline uint32_t siphon_switch_set_entry(struct siphon_switch *s, uint32_t p, uint32_t slot, uint16_t id)
+{
+    return siphon_set_entry(p, slot, id, s->numbers, SIPHON_NUMBERS);
+}
+
+static inline uint32_t siphon_switch_free_entry(struct siphon_switch *s, uint32_t p, uint32_t slot)
+{
+    return siphon_free_entry(p, slot, s->numbers, SIPHON_NUMBERS);
+}
+
+static inline uint32_t siphon_switch_set_bus(struct siphon_switch *s, uint32_t p, uint32_t bus)
+{
+    return siphon_set_bus(p, bus, s->numbers, SIPHON_NUMBERS);
+}
+
+static inline uint32_t siphon_switch_make_inactive(struct siphon_switch *s, uint32_t p)
+{
+    return siphon_make_inactive(p, s->numbers, SIPHON_NUMBERS);
+}
+
+static inline uint32_t siphon_switch_clear_log(struct siphon_switch *s, uint32_t p, uint32_t ones)
+{
+    return siphon_clear_log(p, ones, s->logs, SIPHON_LOGS);
+}
 
 #ifdef __cplusplus
 }

@@ -3,12 +3,16 @@
 use crate::model::{self, Window};
 use crate::packets::windows_of;
 use crate::random::Random;
-use crate::stream::{self, Bench, Record};
+use crate::stream::{self, table, Bench, Record, PARAMETERS, RIGHT_LENGTH};
 
 /// The requester IDs that are set: few, so that they meet again.
 const IDS: [u32; 6] = [0x0300, 0x0301, 0x0000, 0xFFFF, 0x0140, 0x02C5];
 /// The buses that are set: few, so that partitions share them.
 const BUSES: [u32; 6] = [1, 2, 2, 0, 255, 7];
+
+/// What is lent: four tables and the answer buffer of `pass`, and their right lengths.
+const LENT: [u32; 5] = [table::WINDOWS, table::NUMBERS, table::LOGS, table::OUT, table::ANSWER];
+const RIGHT: [u32; 5] = [768, 80, 96, 4112, 8];
 
 /// A table call, mostly right, that suits the tables as they are.
 pub fn table_call(random: &mut Random, bench: &Bench) -> Record {
@@ -185,27 +189,67 @@ pub fn clear_log(random: &mut Random, p: u32) -> Record {
 
 /// Lends every table with its right length, and Out and the answer buffer perhaps longer.
 pub fn right_lend(random: &mut Random) -> Record {
-    let out = if random.one_in(2) { 4112 } else { random.pick(&[4113, 4119, 4120, 9999]) };
-    let answer = if random.one_in(2) { 8 } else { random.pick(&[9, 10, 11]) };
-    Record::new(stream::LEND, &[768, 80, 96, out, answer])
+    let mut lengths = RIGHT;
+    if random.one_in(2) {
+        lengths[3] = random.pick(&[4113, 4119, 4120, 9999, 0xFFFF_FFFE]);
+    }
+    if random.one_in(2) {
+        lengths[4] = random.pick(&[9, 10, 11, 0x8000_0000, 0xFFFF_FFFE]);
+    }
+    lend(random, lengths)
 }
 
 /// Lends a table or the answer buffer with a wrong length.
 pub fn wrong_lend(random: &mut Random) -> Record {
-    let mut lengths = [768, 80, 96, 4112, 8];
+    let mut lengths = RIGHT;
     match random.below(6) {
-        0 => lengths[0] = random.pick(&[0, 1, 767, 769, 0xFFFF_FFFF]),
-        1 => lengths[1] = random.pick(&[0, 1, 64, 79, 81, 0xFFFF_FFFF]),
-        2 => lengths[2] = random.pick(&[0, 6, 95, 97, 0xFFFF_FFFF]),
+        0 => lengths[0] = random.pick(&[0, 1, 767, 769, 770, 0x8000_0000, 0xFFFF_FFFE]),
+        1 => lengths[1] = random.pick(&[0, 1, 64, 79, 81, 82, 0xFFFF_FFFE]),
+        2 => lengths[2] = random.pick(&[0, 6, 95, 97, 98, 0xFFFF_FFFE]),
         3 => lengths[3] = random.pick(&[0, 12, 16, 4096, 4111]),
         4 => lengths[4] = random.below(8),
         _ => lengths = [random.below(770), random.below(82), random.below(98), 4112, 10],
     }
-    Record::new(stream::LEND, &lengths)
+    lend(random, lengths)
 }
 
-fn store(table: u32, place: usize, value: u64) -> Record {
-    Record::new(stream::STORE, &[table, place as u32, (value >> 32) as u32, value as u32])
+/// Lends these lengths of the five. Every other right one is written as what stands for it, and the
+/// tables that there are not have rubbish now and then.
+fn lend(random: &mut Random, lengths: [u32; 5]) -> Record {
+    let mut record = Record::lend(&[]);
+    if random.one_in(3) {
+        record.with = [0; PARAMETERS].map(|_| rubbish_word(random));
+    }
+    for place in 0..LENT.len() {
+        let stands = lengths[place] == RIGHT[place] && random.one_in(2);
+        record.with[LENT[place] as usize - 1] = if stands { RIGHT_LENGTH } else { lengths[place] };
+    }
+    record
+}
+
+/// A word that nobody may look at: anything, or a small number.
+fn rubbish_word(random: &mut Random) -> u32 {
+    if random.one_in(2) {
+        random.below(32)
+    } else {
+        random.word()
+    }
+}
+
+/// Puts rubbish into the parameters that a call does not have, about once in four times. A lend has
+/// all of them.
+pub fn litter(random: &mut Random, record: &mut Record) {
+    if !random.one_in(4) {
+        return;
+    }
+    let has = stream::parameters(record.call).unwrap_or(PARAMETERS);
+    for parameter in &mut record.with[has..] {
+        *parameter = rubbish_word(random);
+    }
+}
+
+fn store(number: u32, place: usize, value: u64) -> Record {
+    Record::store(number, place as u32, value)
 }
 
 /// Stores rubbish somewhere.
@@ -219,12 +263,13 @@ pub fn rubbish(random: &mut Random, bench: &Bench) -> Vec<Record> {
         15..=17 => {
             let value = random.pick(&[0, 0, 1, 0x8000_0000, 0x0010_0000, any]);
             let place = if random.one_in(2) { 6 * random.below(16) } else { random.below(96) };
-            vec![store(2, place as usize, value)]
+            vec![store(table::LOGS, place as usize, value)]
         }
-        18..=20 => vec![store(3, random.below(4120) as usize, any)],
+        18..=20 => vec![store(table::OUT, random.below(4120) as usize, any)],
         _ => {
             let places = [767, 768, 769, 80, 81, 96, 97, 4112, 4119, 4120, 0xFFFF_FFFF];
-            vec![store(random.pick(&[0, 1, 2, 3, 4, 0xFFFF_FFFF]), random.pick(&places), any)]
+            let numbers = [1, 1, 4, 4, 6, 6, 7, 7, 0, 2, 3, 5, 8, 9, 15, 16, 0x104, 0xFFFF_FFFF];
+            vec![store(random.pick(&numbers), random.pick(&places), any)]
         }
     }
 }
@@ -251,7 +296,7 @@ fn spoiled_row(random: &mut Random, bench: &Bench) -> Vec<Record> {
         10 => (2, control & 0x1FFF | random.pick(&[1, 2, 3, 4, 5, 6, 1 << 50]) << 13),
         _ => (random.below(3) as usize, random.draw()),
     };
-    vec![store(0, row + word, value)]
+    vec![store(table::WINDOWS, row + word, value)]
 }
 
 /// Lays a row over another that is in force, as no call would: mostly with the other choice about
@@ -271,7 +316,7 @@ fn row_over_another(random: &mut Random, bench: &Bench) -> Vec<Record> {
     let wrong = right ^ 1 << random.pick(&[6, 12, 12, 14, 15, 16, 63]);
     let control = if random.one_in(4) { wrong } else { right };
     let row = 3 * (16 * p + random.below(16)) as usize;
-    vec![store(0, row, base), store(0, row + 1, target), store(0, row + 2, control)]
+    [base, target, control].iter().zip(row..).map(|(&word, place)| store(table::WINDOWS, place, word)).collect()
 }
 
 /// An entry that repeats another slot's, or is ill-formed.
@@ -286,7 +331,7 @@ fn odd_entry(random: &mut Random, bench: &Bench) -> Record {
         4 => id | 2 << 16,
         _ => random.word(),
     };
-    store(1, place, u64::from(word))
+    store(table::NUMBERS, place, u64::from(word))
 }
 
 /// A bus word: active, inactive, or like an entry's.
@@ -294,5 +339,5 @@ fn odd_bus(random: &mut Random) -> Record {
     let any = random.word();
     let like_entry = 0x1_0000 | any >> 16;
     let word = random.pick(&[0, 1, 2, 2, 254, 255, 256, 257, like_entry, 0xFFFF_FFFF, any]);
-    store(1, model::BUSES + random.below(16) as usize, u64::from(word))
+    store(table::NUMBERS, model::BUSES + random.below(16) as usize, u64::from(word))
 }

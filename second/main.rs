@@ -1,16 +1,20 @@
-//! A second program for the switch: it has the rules written down once more, runs the exam sheet,
-//! and compares another program with itself, call by call.
+//! A second program for the switch: it has the rules written down once more, runs the exam sheet and
+//! cases that are written as text, and compares another program with itself, call by call.
 
 mod calls;
 mod cases;
 mod compare;
+mod difference;
 mod form;
+mod lessons;
 mod model;
 mod packets;
+mod program;
 mod random;
 mod sheet;
 mod stream;
 mod tally;
+mod text;
 
 use std::io::{self, BufReader, BufWriter, Write};
 use std::process::ExitCode;
@@ -18,6 +22,7 @@ use std::time::{SystemTime, UNIX_EPOCH};
 
 const USAGE: &str = "\
 usage: second sheet
+       second cases FILE [PROGRAM [ARG..]]
        second compare PACKETS [--seed S] PROGRAM [ARG..]
        second answer
        second record PACKETS --seed S
@@ -29,6 +34,7 @@ const PIECE: usize = 1 << 18;
 /// What the words on the command line ask for.
 enum Task {
     Sheet,
+    Cases { file: String, program: Vec<String> },
     Compare { packets: u64, seed: Option<u64>, program: Vec<String> },
     Answer,
     Record { packets: u64, seed: u64 },
@@ -45,18 +51,27 @@ fn main() -> ExitCode {
         }
     };
     let result = match task {
-        Task::Sheet => run_sheet(),
-        Task::Compare { packets, seed, program } => run_compare(packets, seed, &program),
-        Task::Answer => answer().map(|()| true),
-        Task::Record { packets, seed } => record(packets, seed).map(|()| true),
+        Task::Sheet => run_sheet().map(status),
+        Task::Cases { file, program } => run_cases(&file, &program),
+        Task::Compare { packets, seed, program } => run_compare(packets, seed, &program).map(status),
+        Task::Answer => answer().map(|()| ExitCode::SUCCESS),
+        Task::Record { packets, seed } => record(packets, seed).map(|()| ExitCode::SUCCESS),
     };
     match result {
-        Ok(true) => ExitCode::SUCCESS,
-        Ok(false) => ExitCode::FAILURE,
+        Ok(status) => status,
         Err(error) => {
             let _ = writeln!(io::stderr(), "second: {error}");
             ExitCode::FAILURE
         }
+    }
+}
+
+/// The status that says whether all is well.
+fn status(well: bool) -> ExitCode {
+    if well {
+        ExitCode::SUCCESS
+    } else {
+        ExitCode::FAILURE
     }
 }
 
@@ -66,6 +81,10 @@ fn task(words: &[String]) -> Option<Task> {
     match first.as_str() {
         "sheet" if rest.is_empty() => Some(Task::Sheet),
         "answer" if rest.is_empty() => Some(Task::Answer),
+        "cases" => {
+            let (file, program) = rest.split_first()?;
+            Some(Task::Cases { file: file.clone(), program: program.to_vec() })
+        }
         "record" if rest.len() == 3 => {
             let (packets, seed, _) = packets_and_seed(rest)?;
             Some(Task::Record { packets, seed: seed? })
@@ -99,6 +118,27 @@ fn run_sheet() -> io::Result<bool> {
     let mut out = io::stdout();
     writeln!(out, "{text}{passed} passed, {failed} failed")?;
     Ok(failed == 0)
+}
+
+/// Runs cases that are written as text. If a line cannot be read, nothing is run, and the status is 2.
+fn run_cases(file: &str, program: &[String]) -> io::Result<ExitCode> {
+    let mut told = io::stderr();
+    let text = match std::fs::read_to_string(file) {
+        Ok(text) => text,
+        Err(error) => {
+            writeln!(told, "second: cannot read {file}: {error}")?;
+            return Ok(ExitCode::from(2));
+        }
+    };
+    match text::read(&text) {
+        Ok(lines) => cases::run(file, &lines, program, io::stdout()).map(status),
+        Err(wrong) => {
+            for (number, why) in wrong {
+                writeln!(told, "{file}:{number}: this line cannot be read: {why}")?;
+            }
+            Ok(ExitCode::from(2))
+        }
+    }
 }
 
 fn run_compare(packets: u64, seed: Option<u64>, program: &[String]) -> io::Result<bool> {
@@ -157,7 +197,7 @@ fn answer() -> io::Result<()> {
 /// Writes a stream of lessons to standard output.
 fn record(packets: u64, seed: u64) -> io::Result<()> {
     let mut to = BufWriter::with_capacity(PIECE, io::stdout());
-    let mut lessons = cases::Lessons::new(seed, packets);
+    let mut lessons = lessons::Lessons::new(seed, packets);
     let mut bytes = Vec::new();
     while let Some(step) = lessons.step() {
         bytes.clear();

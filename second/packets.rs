@@ -2,7 +2,7 @@
 
 use crate::model::{self, Window};
 use crate::random::Random;
-use crate::stream::{self, Bench, Record, LONGEST};
+use crate::stream::{self, table, Bench, Record, LONGEST};
 
 /// A request that came out: the partition, and its word 1 there.
 #[derive(Clone, Copy)]
@@ -90,19 +90,19 @@ fn sender(random: &mut Random, bench: &Bench) -> usize {
 /// A packet that goes by a word of the windows or the numbers: what is stored there decides.
 pub fn aimed(random: &mut Random, bench: &Bench, stores: &[Record]) -> Option<(u32, Vec<u8>)> {
     let store = stores.first()?;
-    let (table, place, word) = (store.with[0], store.with[1] as usize, store.with[3]);
-    if table == 0 && place < model::WINDOWS {
+    let (number, place, word) = (store.with[0], store.with[1] as usize, store.with[3]);
+    if number == table::WINDOWS && place < model::WINDOWS {
         let start = place / 3 * 3;
         let mut row = [bench.windows[start], bench.windows[start + 1], bench.windows[start + 2]];
         if stores.len() == row.len() {
             row = [0, 1, 2].map(|word: usize| stream::wide(stores[word].with[2], stores[word].with[3]));
         }
         Some(aimed_at_row(random, bench, place / 48, &row_as_window(&row)))
-    } else if table == 1 && place < model::BUSES && random.one_in(2) {
+    } else if number == table::NUMBERS && place < model::BUSES && random.one_in(2) {
         let p = place / 4;
         let address = window(random, p, bench).map_or(0, |window| window.base);
         Some(request_from(random, p, address, word & 0xFFFF))
-    } else if table == 1 && place < model::NUMBERS {
+    } else if number == table::NUMBERS && place < model::NUMBERS {
         let q = random.below(16);
         let bus = model::bus(q as usize, &bench.numbers).unwrap_or(0);
         let number = 256 * bus + 64 + place as u32;

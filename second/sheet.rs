@@ -1,6 +1,7 @@
 //! The exam sheet: its tables, its cases A to N, and what must come of each.
 
 use crate::model::{self, Outcome, Record};
+use crate::stream::{self, table, Record as Call};
 
 /// The tables of the sheet, with empty logs.
 struct Tables {
@@ -33,6 +34,17 @@ fn tables() -> Tables {
     numbers[model::BUSES..].fill(model::INACTIVE);
     numbers[model::BUSES..model::BUSES + 3].copy_from_slice(&[1, 2, 2]);
     Tables { windows, numbers, logs: [0; model::LOGS], out: [0; model::OUT] }
+}
+
+/// The calls that make the tables of the sheet out of zeros, and fill all of Out's room.
+pub fn calls() -> Vec<Call> {
+    let mut calls: Vec<Call> = (3..16).map(|p| Call::new(stream::MAKE_INACTIVE, &[p])).collect();
+    calls.extend([[0, 1], [1, 2], [2, 2]].map(|with| Call::new(stream::SET_BUS, &with)));
+    calls.push(Call::new(stream::SET_WINDOW, &[1, 0, 0, 0x9000_0000, 1, 0x4000_0000, 20, 0, 0]));
+    calls.push(Call::new(stream::SET_WINDOW, &[1, 1, 0, 0xA000_0000, 0, 0, 12, 3, 0]));
+    calls.push(Call::new(stream::SET_ENTRY, &[1, 2, 0x0300]));
+    calls.extend((0..stream::OUT_ROOM as u32).map(|place| Call::store(table::OUT, place, 0xEE)));
+    calls
 }
 
 /// The line that `bench` prints for an outcome.

@@ -3,7 +3,10 @@
 use crate::model::{self, Outcome};
 use std::io::{self, Read};
 
-/// The calls' numbers.
+/// The version of the records.
+pub const VERSION: u32 = 1;
+
+/// The calls' numbers: the switch's own from 1, the stream's own from 101.
 pub const PASS: u32 = 1;
 pub const SET_WINDOW: u32 = 2;
 pub const EMPTY_WINDOW: u32 = 3;
@@ -12,9 +15,22 @@ pub const FREE_ENTRY: u32 = 5;
 pub const SET_BUS: u32 = 6;
 pub const MAKE_INACTIVE: u32 = 7;
 pub const CLEAR_LOG: u32 = 8;
-pub const LEND: u32 = 9;
-pub const STORE: u32 = 10;
-pub const SHOW: u32 = 11;
+pub const LEND: u32 = 101;
+pub const STORE: u32 = 102;
+pub const SHOW: u32 = 103;
+
+/// The numbers of the tables, by which they are lent and stored into.
+pub mod table {
+    pub const WINDOWS: u32 = 1;
+    pub const NUMBERS: u32 = 4;
+    pub const LOGS: u32 = 6;
+    pub const OUT: u32 = 7;
+    /// The answer buffer of `pass`, which is lent like a table.
+    pub const ANSWER: u32 = 8;
+}
+
+/// The length that stands for a table's right length.
+pub const RIGHT_LENGTH: u32 = 0xFFFF_FFFF;
 
 /// How much room each table has.
 pub const WINDOWS_ROOM: usize = 769;
@@ -26,8 +42,12 @@ pub const ANSWER_ROOM: usize = 10;
 /// How many words `pass` writes into its answer buffer.
 pub const ANSWER_WORDS: usize = 8;
 
-/// How many bytes a record has before its packet.
-pub const RECORD_BYTES: usize = 44;
+/// How many parameters a record has, used or not.
+pub const PARAMETERS: usize = 15;
+/// How many words a record has before its packet: version, call, parameters, and the packet's length.
+pub const RECORD_WORDS: usize = PARAMETERS + 3;
+/// How many bytes those are.
+pub const RECORD_BYTES: usize = 4 * RECORD_WORDS;
 /// The longest packet of a record.
 pub const LONGEST: usize = 4200;
 /// How many bytes an answer has.
@@ -45,7 +65,7 @@ pub const BROKEN: [u32; 11] = [0xFFFF_FFFF, 0, 0, 0, 0, 0, 0, 0, 0, 0, 0];
 #[derive(Clone, Debug)]
 pub struct Record {
     pub call: u32,
-    pub with: [u32; 9],
+    pub with: [u32; PARAMETERS],
     pub packet: Vec<u8>,
 }
 
@@ -56,10 +76,24 @@ pub enum Next {
     Record(Record),
 }
 
+/// How many parameters a call has, the first of its record; none if there is no such call.
+pub fn parameters(call: u32) -> Option<usize> {
+    match call {
+        PASS | MAKE_INACTIVE => Some(1),
+        EMPTY_WINDOW | FREE_ENTRY | SET_BUS | CLEAR_LOG => Some(2),
+        SET_ENTRY => Some(3),
+        STORE => Some(4),
+        SET_WINDOW => Some(9),
+        LEND => Some(PARAMETERS),
+        SHOW => Some(0),
+        _ => None,
+    }
+}
+
 impl Record {
     /// A call without a packet; parameters that are not given are 0.
     pub fn new(call: u32, parameters: &[u32]) -> Record {
-        let mut with = [0; 9];
+        let mut with = [0; PARAMETERS];
         with[..parameters.len()].copy_from_slice(parameters);
         Record { call, with, packet: Vec::new() }
     }
@@ -69,12 +103,31 @@ impl Record {
         Record { packet, ..Record::new(PASS, &[partition]) }
     }
 
-    /// The record's eleven words.
-    pub fn words(&self) -> [u32; 11] {
-        let mut words = [0; 11];
-        words[0] = self.call;
-        words[1..10].copy_from_slice(&self.with);
-        words[10] = self.packet.len() as u32;
+    /// The call that lends these lengths of these tables, and the right length of every other.
+    pub fn lend(lengths: &[(u32, u32)]) -> Record {
+        let mut record = Record::new(LEND, &[RIGHT_LENGTH; PARAMETERS]);
+        for &(number, length) in lengths {
+            record.with[number as usize - 1] = length;
+        }
+        record
+    }
+
+    /// The call that stores a value into a place of a table.
+    pub fn store(number: u32, place: u32, value: u64) -> Record {
+        Record::new(STORE, &[number, place, (value >> 32) as u32, value as u32])
+    }
+
+    /// The call that shows the tables.
+    pub fn show() -> Record {
+        Record::new(SHOW, &[])
+    }
+
+    /// The record's words.
+    pub fn words(&self) -> [u32; RECORD_WORDS] {
+        let mut words = [0; RECORD_WORDS];
+        words[..2].copy_from_slice(&[VERSION, self.call]);
+        words[2..2 + PARAMETERS].copy_from_slice(&self.with);
+        words[RECORD_WORDS - 1] = self.packet.len() as u32;
         words
     }
 
@@ -95,16 +148,16 @@ pub fn decode(from: &mut impl Read) -> io::Result<Next> {
         RECORD_BYTES => (),
         _ => return Ok(Next::Broken),
     }
-    let mut words = [0; 11];
+    let mut words = [0; RECORD_WORDS];
     for (word, b) in words.iter_mut().zip(bytes.chunks_exact(4)) {
         *word = u32::from_be_bytes([b[0], b[1], b[2], b[3]]);
     }
-    let (call, following) = (words[0], words[10] as usize);
+    let (call, following) = (words[1], words[RECORD_WORDS - 1] as usize);
     let most = if call == PASS { LONGEST } else { 0 };
-    if !(PASS..=SHOW).contains(&call) || following > most {
+    if words[0] != VERSION || parameters(call).is_none() || following > most {
         return Ok(Next::Broken);
     }
-    let mut record = Record::new(call, &words[1..10]);
+    let mut record = Record::new(call, &words[2..2 + PARAMETERS]);
     record.packet.resize(following, 0);
     if fill(from, &mut record.packet)? < following {
         return Ok(Next::Broken);
@@ -215,7 +268,7 @@ impl Bench {
         answer
     }
 
-    fn table_call(&mut self, call: u32, with: &[u32; 9]) -> model::Done {
+    fn table_call(&mut self, call: u32, with: &[u32; PARAMETERS]) -> model::Done {
         let (p, second) = (with[0], with[1]);
         let windows = &mut self.windows[..self.windows_lent];
         let numbers = &mut self.numbers[..self.numbers_lent];
@@ -258,23 +311,37 @@ impl Bench {
         answer
     }
 
-    fn lend(&mut self, with: &[u32; 9]) {
-        let within = |length: u32, room: usize| room.min(length as usize);
-        self.windows_lent = within(with[0], WINDOWS_ROOM);
-        self.numbers_lent = within(with[1], NUMBERS_ROOM);
-        self.logs_lent = within(with[2], LOGS_ROOM);
-        self.out_lent = within(with[3], OUT_ROOM);
-        self.answer_lent = within(with[4], ANSWER_ROOM);
+    fn lend(&mut self, with: &[u32; PARAMETERS]) {
+        let lent = |number: u32, right: usize, room: usize| match with[number as usize - 1] {
+            RIGHT_LENGTH => right,
+            length => room.min(length as usize),
+        };
+        self.windows_lent = lent(table::WINDOWS, model::WINDOWS, WINDOWS_ROOM);
+        self.numbers_lent = lent(table::NUMBERS, model::NUMBERS, NUMBERS_ROOM);
+        self.logs_lent = lent(table::LOGS, model::LOGS, LOGS_ROOM);
+        self.out_lent = lent(table::OUT, model::OUT, OUT_ROOM);
+        self.answer_lent = lent(table::ANSWER, ANSWER_WORDS, ANSWER_ROOM);
     }
 
-    fn store(&mut self, with: &[u32; 9]) {
+    fn store(&mut self, with: &[u32; PARAMETERS]) {
         let (place, high, low) = (with[1] as usize, with[2], with[3]);
         match with[0] {
-            0 => put(&mut self.windows, place, wide(high, low)),
-            1 => put(&mut self.numbers, place, low),
-            2 => put(&mut self.logs, place, low),
-            3 => put(&mut self.out, place, low as u8),
+            table::WINDOWS => put(&mut self.windows, place, wide(high, low)),
+            table::NUMBERS => put(&mut self.numbers, place, low),
+            table::LOGS => put(&mut self.logs, place, low),
+            table::OUT => put(&mut self.out, place, low as u8),
             _ => (),
+        }
+    }
+
+    /// What stands in a place of a table, if there is such a place.
+    pub fn value(&self, number: u32, place: usize) -> Option<u64> {
+        match number {
+            table::WINDOWS => self.windows.get(place).copied(),
+            table::NUMBERS => self.numbers.get(place).copied().map(u64::from),
+            table::LOGS => self.logs.get(place).copied().map(u64::from),
+            table::OUT => self.out.get(place).copied().map(u64::from),
+            _ => None,
         }
     }
 

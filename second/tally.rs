@@ -59,16 +59,17 @@ const FITS: [(&str, &str, u32); 8] = [
     ("target", "all zeros", 0), ("target", "more zeros", 0), ("target", "just k zeros", 0), ("target", "one zero too few", 10),
 ];
 
-/// The names of the calls, from 1 on.
-const CALLS: [&str; 11] = [
+/// The names of the switch's calls, from 1 on, and of the stream's own, from 101 on.
+const CALLS: [&str; 8] = [
     "pass", "set a window", "empty a window", "set an entry", "free an entry", "set a bus",
-    "make inactive", "clear a log", "lend", "store", "show",
+    "make inactive", "clear a log",
 ];
+const OWN_CALLS: [&str; 3] = ["lend", "store", "show"];
 
 /// The name of a call's number.
 pub fn call_name(call: u32) -> &'static str {
-    let place = (call as usize).wrapping_sub(1);
-    CALLS.get(place).copied().unwrap_or("no call")
+    let name = |names: &[&'static str], first: u32| names.get(call.checked_sub(first)? as usize).copied();
+    name(&CALLS, stream::PASS).or_else(|| name(&OWN_CALLS, stream::LEND)).unwrap_or("no call")
 }
 
 /// Whether a packet is a read, a write or a completion, by its first byte alone.
@@ -242,7 +243,7 @@ impl Tally {
     /// Counts the choice of a window that is set, and how base and target fit its size where the size
     /// is in range.
     fn note_window(&mut self, record: &Record, number: u32) {
-        let [_, _, base_high, base, target_high, target, k, _, choice] = record.with;
+        let [_, _, base_high, base, target_high, target, k, _, choice, ..] = record.with;
         if number == 0 {
             count(&mut self.choices, CHOICES[usize::from(choice != 0)]);
         }

@@ -1,5 +1,6 @@
 /* Each call of include/siphonpear.h, done and refused, from C: what it returns and which words it writes, and that a buffer is
-   left alone beyond what is written. tests/c_example.sh builds and runs it; the last line is 'N passed, M failed'. */
+   left alone beyond what is written; then an idle switch, and each call on a switch beside the same call on copies of its
+   tables. tests/c_example.sh builds and runs it; the last line is 'N passed, M failed'. */
 #include <stdint.h>
 #include <stdio.h>
 #include <string.h>
@@ -289,6 +290,127 @@ static void marked_in_two_slots(void)
     expect("and leads nowhere", pass(0, marked_completion, 16, sizeof out, 10) == SIPHON_NOT_PASSABLE);
 }
 
+/* A switch that is there as long as the program; idle_switches has one of its own. */
+static struct siphon_switch held = SIPHON_SWITCH_IDLE;
+
+/* Every partition is inactive, and all other words are 0. */
+static int is_idle(const struct siphon_switch *s)
+{
+    size_t i;
+    for (i = 0; i < SIPHON_WINDOWS; i++) {
+        if (s->windows[i] != 0) return 0;
+    }
+    for (i = 0; i < SIPHON_NUMBERS; i++) {
+        if (s->numbers[i] != (i < 64 ? 0u : 256u)) return 0;
+    }
+    for (i = 0; i < SIPHON_LOGS; i++) {
+        if (s->logs[i] != 0) return 0;
+    }
+    return 1;
+}
+
+/* Two buffers have the same bytes. */
+static int alike(const void *one, const void *other, size_t length)
+{
+    const unsigned char *a = one, *b = other;
+    size_t i;
+    for (i = 0; i < length; i++) {
+        if (a[i] != b[i]) return 0;
+    }
+    return 1;
+}
+
+static const uint8_t plain_read[] = {0, 0, 0, 1, 3, 0, 5, 0x0F, 0x90, 0, 0, 0x10};
+
+static void idle_switches(void)
+{
+    struct siphon_switch s = SIPHON_SWITCH_IDLE;
+    uint32_t p;
+    expect("a static switch is idle", is_idle(&held));
+    expect("one in a function too", is_idle(&s));
+    for (p = 0; p < 16; p++) {
+        memset(out, 0xAA, sizeof out);
+        memset(answer, 0xAA, sizeof answer);
+        expect("no partition of it is active", siphon_switch_pass(&s, p, plain_read, 12, out, sizeof out, answer, 10)
+               == SIPHON_SENDER_INACTIVE && answer_is(dropped) && rest_is(0xAA, 8, 0));
+    }
+    expect("and it stays idle", is_idle(&s));
+}
+
+/* Lays the same words into a switch and into the tables, no two alike in one: every entry is held, every partition active. */
+static void lay(struct siphon_switch *s)
+{
+    uint32_t i;
+    for (i = 0; i < SIPHON_WINDOWS; i++) s->windows[i] = i;
+    for (i = 0; i < SIPHON_NUMBERS; i++) s->numbers[i] = i < 64 ? 0x10000 + i : i;
+    for (i = 0; i < SIPHON_LOGS; i++) s->logs[i] = 0xF0000000 + i;
+    memcpy(windows, s->windows, sizeof windows);
+    memcpy(numbers, s->numbers, sizeof numbers);
+    memcpy(logs, s->logs, sizeof logs);
+}
+
+/* A call on a switch and the same one on the tables returned what they must, and the words of both are still the same. */
+static void both(const char *name, const struct siphon_switch *s, uint32_t returned, uint32_t beside, uint32_t wanted)
+{
+    expect(name, returned == wanted && beside == wanted && alike(s->windows, windows, sizeof windows)
+           && alike(s->numbers, numbers, sizeof numbers) && alike(s->logs, logs, sizeof logs));
+}
+
+/* The read, from partition 3, on a switch and on the tables: what is left in Out and in the answer is the same too. */
+static void both_pass(const char *name, struct siphon_switch *s, size_t length, size_t out_length, size_t answer_length,
+                      uint32_t wanted)
+{
+    static uint8_t other_out[sizeof out];
+    uint32_t other[SIPHON_ANSWER + 2];
+    uint32_t returned;
+    memset(out, 0xAA, sizeof out);
+    memset(answer, 0xAA, sizeof answer);
+    memcpy(other_out, out, sizeof out);
+    memcpy(other, answer, sizeof answer);
+    returned = siphon_switch_pass(s, 3, plain_read, length, other_out, out_length, other, answer_length);
+    both(name, s, returned, siphon_pass(3, plain_read, length, windows, SIPHON_WINDOWS, numbers, SIPHON_NUMBERS, logs,
+                                        SIPHON_LOGS, out, out_length, answer, answer_length), wanted);
+    expect(name, alike(other_out, out, sizeof out) && alike(other, answer, sizeof answer));
+}
+
+static void switch_calls(struct siphon_switch *s)
+{
+    lay(s);
+    both("a window is set on both", s, siphon_switch_set_window(s, 3, 5, 0x90000000, 0x140000000, 20, 7, 1),
+         siphon_set_window(3, 5, 0x90000000, 0x140000000, 20, 7, 1, windows, SIPHON_WINDOWS), SIPHON_DONE);
+    both("an entry is set on both", s, siphon_switch_set_entry(s, 3, 2, 0x0300),
+         siphon_set_entry(3, 2, 0x0300, numbers, SIPHON_NUMBERS), SIPHON_DONE);
+    both("a bus is set on both", s, siphon_switch_set_bus(s, 7, 9),
+         siphon_set_bus(7, 9, numbers, SIPHON_NUMBERS), SIPHON_DONE);
+    both_pass("a read crosses on both", s, 12, sizeof out, 10, SIPHON_DONE);
+    both_pass("a cut read is dropped on both", s, 11, sizeof out, 10, SIPHON_TOO_SHORT);
+    both_pass("a short Out on both", s, 12, SIPHON_OUT - 1, 10, SIPHON_WRONG_CALL);
+    both_pass("a short answer on both", s, 12, sizeof out, 7, SIPHON_WRONG_CALL);
+    both("a log is cleared on both", s, siphon_switch_clear_log(s, 3, 0x30000002),
+         siphon_clear_log(3, 0x30000002, logs, SIPHON_LOGS), SIPHON_DONE);
+    both("a partition is made inactive on both", s, siphon_switch_make_inactive(s, 7),
+         siphon_make_inactive(7, numbers, SIPHON_NUMBERS), SIPHON_DONE);
+    both_pass("a read is answered on both", s, 12, sizeof out, 10, SIPHON_DESTINATION_INACTIVE);
+    both("an entry is freed on both", s, siphon_switch_free_entry(s, 3, 2),
+         siphon_free_entry(3, 2, numbers, SIPHON_NUMBERS), SIPHON_DONE);
+    both("a window is emptied on both", s, siphon_switch_empty_window(s, 3, 5),
+         siphon_empty_window(3, 5, windows, SIPHON_WINDOWS), SIPHON_DONE);
+}
+
+/* What a call on a switch refuses leaves it as it was. */
+static void switch_refusals(struct siphon_switch *s)
+{
+    const uint32_t wrong = SIPHON_WRONG_CALL;
+    lay(s);
+    both("no window 16", s, siphon_switch_set_window(s, 3, 16, 0, 0, 12, 7, 1), wrong, wrong);
+    both("no window 16 to empty", s, siphon_switch_empty_window(s, 3, 16), wrong, wrong);
+    both("no entry 4", s, siphon_switch_set_entry(s, 3, 4, 0x0300), wrong, wrong);
+    both("no entry 4 to free", s, siphon_switch_free_entry(s, 3, 4), wrong, wrong);
+    both("no bus 256", s, siphon_switch_set_bus(s, 3, 256), wrong, wrong);
+    both("no partition 16", s, siphon_switch_make_inactive(s, 16), wrong, wrong);
+    both("no log 16", s, siphon_switch_clear_log(s, 16, 0xFFFFFFFF), wrong, wrong);
+}
+
 int main(void)
 {
     window_calls();
@@ -302,6 +424,9 @@ int main(void)
     logs[6] = 0x00101000;
     expect("a log is cleared", siphon_clear_log(1, 0x00100000, logs, SIPHON_LOGS) == SIPHON_DONE && logs[6] == 0x00001000);
     expect("logs too short", siphon_clear_log(1, 0x00001000, logs, SIPHON_LOGS - 1) == SIPHON_WRONG_CALL && logs[6] == 0x00001000);
+    idle_switches();
+    switch_calls(&held);
+    switch_refusals(&held);
     printf("%d passed, %d failed\n", passed, failed);
     return failed != 0;
 }

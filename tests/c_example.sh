@@ -1,6 +1,6 @@
 #!/bin/sh
-# The example in C and the calls one by one, built against the library by tools/link-c and run; the header in C++; and what
-# tools/link-c tells.
+# The example in C and the calls one by one, built against the library by tools/link-c and run; the header in C++, and a switch
+# there; and what tools/link-c tells.
 set -u
 cd "$(dirname "$0")/.." || exit 2
 . tests/lib.sh
@@ -24,7 +24,7 @@ both() {
 }
 
 both examples/c/lesson.c examples/c/lesson.stdout
-echo '188 passed, 0 failed' >"$work/wanted"
+echo '231 passed, 0 failed' >"$work/wanted"
 both tests/abi.c "$work/wanted"
 
 # a program in a folder with a blank in its name
@@ -41,13 +41,41 @@ expect 'a file elsewhere is built' [ $? -eq 0 ]
 tools/x86-64 "$work/a folder/one"
 expect 'a call with nothing lent is refused by 1' [ $? -eq 1 ]
 
-# in C++ the names are those of C
+# as_cpp WORD..: clang for C++, with these words
 kit=$(dirname "$(dirname "$(rt doc)")")/on/$(uname -m)
+as_cpp() {
+    "$kit/toolchain/bin/clang" --target=x86_64-unknown-linux-gnu -std=c++11 -fPIC -Wall -Wextra -Werror -pedantic -nostdinc \
+        -isystem tools/c-headers -I include "$@"
+}
+
+# in C++ the names are those of C
 cp "$work/a folder/one.c" "$work/one.cc"
-"$kit/toolchain/bin/clang" --target=x86_64-unknown-linux-gnu -std=c++11 -Wall -Wextra -Werror -pedantic -nostdinc \
-    -isystem tools/c-headers -I include -S -o "$work/one.s" "$work/one.cc"
+as_cpp -S -o "$work/one.s" "$work/one.cc"
 expect 'the header is C++ too' [ $? -eq 0 ]
 expect 'and its names are those of C' grep -qw siphon_pass "$work/one.s"
+
+# and a switch is idle there: refusal 2 from the static one, and, when its partition is active, 31 for no bytes from the other
+cat >"$work/two.cc" <<'CC'
+#include "siphonpear.h"
+static struct siphon_switch held = SIPHON_SWITCH_IDLE;
+static uint8_t out[SIPHON_OUT];
+int main()
+{
+    struct siphon_switch own = SIPHON_SWITCH_IDLE;
+    uint32_t answer[SIPHON_ANSWER];
+    uint32_t idle = siphon_switch_pass(&held, 15, nullptr, 0, out, sizeof out, answer, SIPHON_ANSWER);
+    uint32_t done = siphon_switch_set_bus(&own, 15, 16);
+    uint32_t active = siphon_switch_pass(&own, 15, nullptr, 0, out, sizeof out, answer, SIPHON_ANSWER);
+    return idle == SIPHON_SENDER_INACTIVE && done == SIPHON_DONE && active == SIPHON_TOO_SHORT ? 0 : 1;
+}
+CC
+as_cpp -c -o "$work/two.o" "$work/two.cc"
+expect 'a switch is made in C++' [ $? -eq 0 ]
+"$kit/bin/rattle-link" --target x86_64-unknown-linux-gnu --toolchain "$kit/toolchain" -o "$work/two" "$work/two.o" \
+    "$(tools/archive)" >"$work/log" 2>&1 || cat "$work/log"
+expect 'and linked' [ -f "$work/two" ]
+tools/x86-64 "$work/two"
+expect 'and is idle' [ $? -eq 0 ]
 
 # what cannot be done is told
 echo 'int main(void) { return missing(); }' >"$work/wrong.c"

@@ -1,6 +1,6 @@
 #!/bin/sh
 # include/siphonpear.h against the sources: every exported call by its name and by the order, names and types of its parameters,
-# and every constant; and that each sort of wrong header is told.
+# the call on a switch that makes it, the tables of a switch, and every constant; and that each sort of wrong header is told.
 set -u
 cd "$(dirname "$0")/.." || exit 2
 . tests/lib.sh
@@ -38,7 +38,34 @@ calls_of_source() {
         }' "$@"
 }
 
-# calls_of_header FILE: each declaration of it on a line, with single blanks
+# switch_of_calls: from calls as C declares them, on standard input, what a switch makes of them. Its fields are the tables: all
+# buffers but the packet, Out and the answer. The call on a switch takes the other parameters, and hands over all in order.
+switch_of_calls() {
+    echo 'struct siphon_switch {'
+    awk '
+        {
+            call = $2; sub(/\(.*/, "", call)
+            over = call; sub(/^siphon_/, "siphon_switch_", over)
+            list = $0; sub(/^[^(]*\(/, "", list); sub(/\)$/, "", list)
+            n = split(list, parameter, /, /)
+            taken = "struct siphon_switch *s"; handed = ""
+            for (i = 1; i <= n; i++) {
+                name = parameter[i]; sub(/.*[ *]/, "", name)
+                if (parameter[i] ~ /\*/ && name !~ /^(packet|out|answer)$/) {
+                    field = parameter[i++]; sub(/^const /, "", field); sub(/\*/, "", field)
+                    print field "[SIPHON_" toupper(name) "]"
+                    handed = handed ", s->" name ", SIPHON_" toupper(name)
+                } else {
+                    taken = taken ", " parameter[i]
+                    handed = handed ", " name
+                }
+            }
+            print "static inline " $1 " " over "(" taken ") { return " call "(" substr(handed, 3) ")"
+        }'
+}
+
+# calls_of_header FILE: each declaration of it on a line, with single blanks: a call, a field, or a call on a switch up to its
+# only semicolon
 calls_of_header() {
     awk '
         {
@@ -50,9 +77,11 @@ calls_of_header() {
                 line = at ? substr(line, at + 2) : ""
                 if (at) comment = !comment
             }
-            if (kept !~ /^(#|extern "C" \{|\})/) text = text " " kept
+            if (!macro && kept !~ /^(#|extern "C" \{|\})/) text = text " " kept
+            macro = (macro || /^#/) && /\\$/
         }
         END {
+            sub(/struct siphon_switch \{/, "&;", text)
             n = split(text, declaration, /;/)
             for (i = 1; i <= n; i++) {
                 gsub(/[ \t]+/, " ", declaration[i]); gsub(/^ | $/, "", declaration[i])
@@ -81,23 +110,30 @@ constant_of() {
 }
 
 constants_of_source() {
-    numbers_of SIPHON crates/switch/src/answer.rt
+    numbers_of SIPHON crates/routing/src/refusal.rt
     numbers_of SIPHON crates/tlp/src/form.rt
-    numbers_of SIPHON crates/tables/src/lib.rt
+    for name in DONE WRONG_CALL; do
+        constant_of "SIPHON_$name" crates/ground/src/table.rt "$name"
+    done
+    for name in WINDOW_VALUES OVERLAP; do
+        constant_of "SIPHON_$name" crates/windows/src/edit.rt "$name"
+    done
+    constant_of SIPHON_REPETITION crates/numbers/src/entries.rt REPETITION
     numbers_of SIPHON_LOG crates/logs/src/lib.rt
-    constant_of SIPHON_WINDOWS crates/windows/src/row.rt LENGTH
+    constant_of SIPHON_WINDOWS crates/rows/src/lib.rt LENGTH
     constant_of SIPHON_NUMBERS crates/numbers/src/entries.rt LENGTH
     constant_of SIPHON_LOGS crates/logs/src/lib.rt LENGTH
-    constant_of SIPHON_OUT crates/switch/src/rule.rt OUT_LENGTH
+    constant_of SIPHON_OUT crates/routing/src/rule.rt LENGTH
     constant_of SIPHON_ANSWER crates/siphonpear/src/passing.rt ANSWER_LENGTH
     for name in CROSSED ANSWERED DROPPED; do
         constant_of "SIPHON_$name" crates/siphonpear/src/passing.rt "$name"
     done
 }
 
-# constants_of_header FILE: its constants, as NAME N
+# constants_of_header FILE: its constants, as NAME N: all that is defined but the idle switch, which tests/abi.c tries, and what
+# writes a word sixteen times
 constants_of_header() {
-    awk '$1 == "#define" && NF > 2 { print $2, $3 }' "$1"
+    awk '$1 == "#define" && NF > 2 && $2 !~ /^SIPHON_(SWITCH_IDLE|16\(x\))$/ { print $2, $3 }' "$1"
 }
 
 # agree FILE: the header FILE says what the sources say; $work/told has the lines that only the header (<) or only they have (>)
@@ -108,12 +144,16 @@ agree() {
     diff "$work/header-sorted" "$work/source" >"$work/told"
 }
 
+calls_of_source crates/siphonpear/src/*.rt >"$work/calls"
 {
-    calls_of_source crates/siphonpear/src/*.rt
+    cat "$work/calls"
+    switch_of_calls <"$work/calls"
     constants_of_source
 } | sort -u >"$work/source"
 
 expect 'the sources have eight calls' [ "$(grep -c '^uint32_t siphon_' "$work/source")" -eq 8 ]
+expect 'so there are eight on a switch' [ "$(grep -c '^static inline uint32_t siphon_switch_' "$work/source")" -eq 8 ]
+expect 'and three tables in it' [ "$(grep -c '^uint[0-9]*_t [a-z]*\[SIPHON_[A-Z]*\]$' "$work/source")" -eq 3 ]
 expect 'and thirty constants' [ "$(grep -c '^SIPHON_' "$work/source")" -eq 30 ]
 expect 'no type is unknown' [ "$(grep -c unknown "$work/source")" -eq 0 ]
 if agree "$header"; then told=; else told=$(cat "$work/told"); fi
@@ -145,4 +185,23 @@ wrong 'a table of another length' 's/SIPHON_OUT 4112/SIPHON_OUT 4108/' '> SIPHON
 wrong 'another log bit' 's/SIPHON_LOG_MALFORMED 18/SIPHON_LOG_MALFORMED 19/' '< SIPHON_LOG_MALFORMED 19'
 wrong 'outcomes swapped' 's/SIPHON_DROPPED 2/SIPHON_DROPPED 1/' '< SIPHON_DROPPED 1'
 wrong 'a constant missing' '/SIPHON_NO_ENTRY/d' '> SIPHON_NO_ENTRY 7'
+
+# the same of a switch
+wrong 'two parameters handed over swapped' 's/\(return siphon_set_window(p, slot\), base, target/\1, target, base/' \
+    '< static inline uint32_t siphon_switch_set_window('
+wrong 'two parameters taken swapped' 's/\(siphon_switch_clear_log(.*\)uint32_t p, uint32_t ones/\1uint32_t ones, uint32_t p/' \
+    '< static inline uint32_t siphon_switch_clear_log('
+wrong 'another table' 's/\(return siphon_clear_log(.*\)s->logs, SIPHON_LOGS/\1s->numbers, SIPHON_NUMBERS/' \
+    '< static inline uint32_t siphon_switch_clear_log('
+wrong 'a table twice' 's/^ *s->numbers, SIPHON_NUMBERS,$/s->logs, SIPHON_LOGS,/' '< static inline uint32_t siphon_switch_pass('
+wrong 'the length of another table' 's/\(return siphon_set_bus(.*\)SIPHON_NUMBERS/\1SIPHON_LOGS/' \
+    '< static inline uint32_t siphon_switch_set_bus('
+wrong 'another call made' 's/return siphon_free_entry(/return siphon_set_bus(/' \
+    '< static inline uint32_t siphon_switch_free_entry('
+wrong 'a call on a switch missing' '/^static inline uint32_t siphon_switch_make_inactive/,/^}/d' \
+    '> static inline uint32_t siphon_switch_make_inactive('
+wrong 'a table without a field' '/^    uint32_t logs\[/d' '> uint32_t logs[SIPHON_LOGS]'
+wrong 'a field of another length' 's/numbers\[SIPHON_NUMBERS\]/numbers[SIPHON_LOGS]/' '< uint32_t numbers[SIPHON_LOGS]'
+wrong 'a field of another type' 's/uint64_t windows\[/uint32_t windows[/' '< uint32_t windows[SIPHON_WINDOWS]'
+wrong 'a field that is no table' '/^    uint32_t logs\[/{p;s/.*/    uint8_t out[SIPHON_OUT];/;}' '< uint8_t out[SIPHON_OUT]'
 finish

@@ -25,7 +25,7 @@ tested() {
 
 # what needs no library
 made 'the tests without the library are built' tools/rustc --test -o "$work/plain" "$wrapper"
-tested "$work/plain" 8
+tested "$work/plain" 9
 
 # the wrapper with its calls, only compiled: for that no library is needed
 seen=$work/libsiphonpear.rmeta
@@ -36,7 +36,7 @@ compiled() {
     cat >"$work/line.rs" <<RS
 use siphonpear::{Switch, OUT};
 fn main() {
-    let (mut switch, mut out, packet) = (Switch::new(), [0; OUT], [0; 12]);
+    let (mut switch, mut out, packet) = (Switch::idle(), [0; OUT], [0; 12]);
     println!("{}", switch.pass(1, &packet, &mut out));
     $1
 }
@@ -61,7 +61,8 @@ refused 'a call of the library itself' E0603 'unsafe { siphonpear::ffi::siphon_c
 refused 'a table call whose refusal nobody looks at' 'must be used' 'switch.empty_window(1, 0);'
 refused 'a packet whose outcome nobody looks at' 'must be used' 'switch.pass(1, &packet, &mut out);'
 
-# declared_in_rust FILE: the calls that the wrapper declares, as C has them, and its constants
+# declared_in_rust FILE: the calls that the wrapper declares, as C has them, its constants, and what its switch has: the tables,
+# and the calls on it by their names
 declared_in_rust() {
     sed -n '/extern "C" {/,/^    }$/p' "$1" | tr '\n' ' ' | tr ';' '\n' | sed -n '
         s/  */ /g
@@ -76,6 +77,9 @@ declared_in_rust() {
         /^pub enum/ { prefix = $3 == "LogBit" ? "SIPHON_LOG" : "SIPHON" }
         /^    [A-Z][A-Za-z]* = [0-9]+,$/ { name = $1; gsub(/[A-Z]/, "_&", name); print prefix toupper(name), $3 + 0 }
         /^pub const [A-Z]*: [a-z0-9]* = [0-9]*;$/ { print "SIPHON_" substr($3, 1, length($3) - 1), $6 + 0 }' "$1"
+    sed -n '
+        s/^    pub \([a-z]*\): \[u\([0-9]*\); \([A-Z]*\)\],$/uint\2_t \1[SIPHON_\3]/p
+        s/^        pub fn \([a-z_]*\)[<(].*/siphon_switch_\1/p' "$1"
 }
 
 # agree FILE: the wrapper FILE declares what the header does; $work/told has the lines that only one of them has
@@ -85,10 +89,13 @@ agree() {
 }
 
 {
-    tr '\n' ' ' <include/siphonpear.h | tr ';' '\n' | sed -n 's/  */ /g; s/.*\(uint32_t siphon_[a-z_]*(.*)\)$/\1/p'
-    awk '$1 == "#define" && NF > 2 { print $2, $3 }' include/siphonpear.h
+    tr '\n' ' ' <include/siphonpear.h | tr ';' '\n' | sed -n '/static inline/d; s/  */ /g; s/.*\(uint32_t siphon_[a-z_]*(.*)\)$/\1/p'
+    awk '$1 == "#define" && $3 ~ /^[0-9]+$/ { print $2, $3 }' include/siphonpear.h
+    sed -n '
+        s/^    \(uint[0-9]*_t [a-z]*\[SIPHON_[A-Z]*\]\);$/\1/p
+        s/^static inline uint32_t \(siphon_switch_[a-z_]*\)(.*/\1/p' include/siphonpear.h
 } | sort >"$work/c"
-expect 'the header has eight calls and thirty constants' [ "$(wc -l <"$work/c")" -eq 38 ]
+expect 'the header has eight calls, thirty constants, three tables and eight calls on a switch' [ "$(wc -l <"$work/c")" -eq 49 ]
 if agree "$wrapper"; then told=; else told=$(cat "$work/told"); fi
 expect "the wrapper agrees with the header: $told" [ -z "$told" ]
 
@@ -103,6 +110,9 @@ wrong 'two parameters swapped' 's/p: u32, ones: u32/ones: u32, p: u32/'
 wrong 'a refusal of another number' 's/Overlap = 11/Overlap = 12/'
 wrong 'two numbers of form swapped' 's/Enables = 33/Enables = 34/;s/Contiguity = 34/Contiguity = 33/'
 wrong 'an array of another length' 's/LOGS: usize = 96/LOGS: usize = 95/'
+wrong 'a table with the length of another' 's/pub logs: \[u32; LOGS\]/pub logs: [u32; NUMBERS]/'
+wrong 'a table missing' '/^    pub logs: /d'
+wrong 'a call on a switch of another name' 's/pub fn free_entry/pub fn empty_entry/'
 
 # what tools/link-rust tells
 tools/link-rust "$work/none" 2>"$work/log"
@@ -124,7 +134,7 @@ expect 'no compiler: what is missing' grep -qF 'package rustc' "$work/log"
 
 # on x86-64: the calls, and the lesson
 made 'the tests with the library are linked' tools/link-rust "$work/linked" "$wrapper" --test
-tested "$work/linked" 17
+tested "$work/linked" 19
 lesson="$work/a folder/lesson"
 mkdir "$work/a folder"
 cp examples/rust/lesson.rs "$lesson.rs"

@@ -19,15 +19,15 @@ run() {
     status=$?
 }
 
-run here target/bin/counts
+run here target/bin/bench <crates/bench/stdin
 expect 'a program runs' [ "$status" -eq 0 ]
-expect 'and writes what it must' cmp -s "$work/out" crates/counts/stdout
+expect 'and writes what it must' cmp -s "$work/out" crates/bench/stdout
 run here
 expect 'no program is refused' [ "$status" -eq 2 ]
 run here target/bin/nothing
 expect 'a program that is not there is refused' [ "$status" -eq 2 ]
 expect 'and named' grep -q 'no program target/bin/nothing' "$work/err"
-run abacus target/bin/counts
+run abacus target/bin/bench
 expect 'an unknown machine is refused' [ "$status" -eq 2 ]
 expect 'and named too' grep -q abacus "$work/err"
 
@@ -38,6 +38,6 @@ printf '#!/bin/sh\necho %s/docs/guide.md\n' "$kit" >"$work/bin/rt"
 printf '#!/bin/sh\necho "$*"\n' >"$kit/on/aarch64/toolchain/bin/qemu-x86_64"
 chmod +x "$work/bin/rt" "$kit/on/aarch64/toolchain/bin/qemu-x86_64"
 lib=$kit/on/aarch64/toolchain/lib
-run aarch64 target/bin/counts one two
-expect 'on Arm the emulator is called' [ "$(cat "$work/out")" = "$lib/ld-linux-x86-64.so.2 --library-path $lib target/bin/counts one two" ]
+run aarch64 target/bin/bench one two
+expect 'on Arm the emulator is called' [ "$(cat "$work/out")" = "$lib/ld-linux-x86-64.so.2 --library-path $lib target/bin/bench one two" ]
 finish

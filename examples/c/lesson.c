@@ -5,15 +5,12 @@
    ends with 1 if a call returned another number. */
 #include <stdint.h>
 #include <stdio.h>
-#include <string.h>
 
 #include "siphonpear.h"
 
 enum { TEACHER = 0, NEIGHBOUR = 14, STUDENT = 15 };
 
-static uint64_t windows[SIPHON_WINDOWS];
-static uint32_t numbers[SIPHON_NUMBERS];
-static uint32_t logs[SIPHON_LOGS];
+static struct siphon_switch school = SIPHON_SWITCH_IDLE;
 static uint8_t out[SIPHON_OUT];
 static uint32_t answer[SIPHON_ANSWER];
 static int wrong = 0;
@@ -66,9 +63,8 @@ static void pass(const char *name, uint32_t from, const uint32_t *words, size_t 
     to_bytes(words, count, packet);
     printf("%s, from %lu:", name, (unsigned long)from);
     print_words(words, count);
-    number = siphon_pass(from, packet, 4 * count, windows, SIPHON_WINDOWS, numbers, SIPHON_NUMBERS, logs, SIPHON_LOGS, out,
-                         SIPHON_OUT, answer, SIPHON_ANSWER);
-    must("siphon_pass", number, wanted);
+    number = siphon_switch_pass(&school, from, packet, 4 * count, out, SIPHON_OUT, answer, SIPHON_ANSWER);
+    must("siphon_switch_pass", number, wanted);
     if (answer[0] == SIPHON_DROPPED) {
         printf("  dropped by %lu\n", (unsigned long)number);
         return;
@@ -85,7 +81,7 @@ static void pass(const char *name, uint32_t from, const uint32_t *words, size_t 
 /* The row of a partition's log. */
 static void print_log(uint32_t p)
 {
-    const uint32_t *row = logs + 6 * p;
+    const uint32_t *row = school.logs + 6 * p;
     if (row[0] == 0) {
         printf("log of %lu: no error\n", (unsigned long)p);
         return;
@@ -97,33 +93,29 @@ static void print_log(uint32_t p)
 /* Opens a window of 1 MiB in a slot of partition p, to q; marked packets may pass where marked is not 0. */
 static void open_window(uint32_t p, uint32_t slot, uint64_t base, uint64_t target, uint32_t q, uint32_t marked)
 {
-    uint32_t number = siphon_set_window(p, slot, base, target, 20, q, marked, windows, SIPHON_WINDOWS);
-    must("siphon_set_window", number, SIPHON_DONE);
+    uint32_t number = siphon_switch_set_window(&school, p, slot, base, target, 20, q, marked);
+    must("siphon_switch_set_window", number, SIPHON_DONE);
 }
 
 static void shut_window(uint32_t p, uint32_t slot)
 {
-    must("siphon_empty_window", siphon_empty_window(p, slot, windows, SIPHON_WINDOWS), SIPHON_DONE);
+    must("siphon_switch_empty_window", siphon_switch_empty_window(&school, p, slot), SIPHON_DONE);
 }
 
 static void clear_log(uint32_t p)
 {
-    must("siphon_clear_log", siphon_clear_log(p, 0xFFFFFFFF, logs, SIPHON_LOGS), SIPHON_DONE);
+    must("siphon_switch_clear_log", siphon_switch_clear_log(&school, p, 0xFFFFFFFF), SIPHON_DONE);
 }
 
-/* Empty tables, and every partition on a bus of its own. */
+/* Every partition on a bus of its own, and the IDs under which student 15 and the teacher send. */
 static void begin(void)
 {
     uint32_t p;
-    memset(windows, 0, sizeof windows);
-    memset(numbers, 0, sizeof numbers);
-    memset(logs, 0, sizeof logs);
-    memset(out, 0, sizeof out);
     for (p = 0; p < 16; p++) {
-        must("siphon_set_bus", siphon_set_bus(p, p + 1, numbers, SIPHON_NUMBERS), SIPHON_DONE);
+        must("siphon_switch_set_bus", siphon_switch_set_bus(&school, p, p + 1), SIPHON_DONE);
     }
-    must("siphon_set_entry", siphon_set_entry(STUDENT, 0, 0x0300, numbers, SIPHON_NUMBERS), SIPHON_DONE);
-    must("siphon_set_entry", siphon_set_entry(TEACHER, 0, 0x0108, numbers, SIPHON_NUMBERS), SIPHON_DONE);
+    must("siphon_switch_set_entry", siphon_switch_set_entry(&school, STUDENT, 0, 0x0300), SIPHON_DONE);
+    must("siphon_switch_set_entry", siphon_switch_set_entry(&school, TEACHER, 0, 0x0108), SIPHON_DONE);
 }
 
 int main(void)

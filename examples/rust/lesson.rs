@@ -39,7 +39,7 @@ fn print_log(switch: &Switch, p: u32) -> Result<(), Refusal> {
 }
 
 fn main() -> Result<(), Box<dyn Error>> {
-    let mut switch = Switch::new();
+    let mut switch = Switch::idle();
     for p in 0..16 {
         switch.set_bus(p, p + 1)?;
     }

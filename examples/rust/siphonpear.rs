@@ -288,7 +288,7 @@ pub struct Window {
     pub marked: bool,
 }
 
-/// The three tables. Any words may stand in them; docs/RULES.md says what each means.
+/// All the tables: C's `struct siphon_switch`. Any words may stand in them; docs/RULES.md says what each means.
 #[derive(Clone, Debug, PartialEq, Eq)]
 pub struct Switch {
     pub windows: [u64; WINDOWS],
@@ -297,9 +297,15 @@ pub struct Switch {
 }
 
 impl Switch {
-    /// Tables of zeros: no window, no entry, no error, and every partition active on bus 0.
-    pub fn new() -> Switch {
-        Switch { windows: [0; WINDOWS], numbers: [0; NUMBERS], logs: [0; LOGS] }
+    /// An idle switch, C's `SIPHON_SWITCH_IDLE`: every partition is inactive, and every other word is 0.
+    pub const fn idle() -> Switch {
+        let mut switch = Switch { windows: [0; WINDOWS], numbers: [0; NUMBERS], logs: [0; LOGS] };
+        let mut p = 0;
+        while p < 16 {
+            switch.numbers[64 + p] = 256;
+            p += 1;
+        }
+        switch
     }
 
     /// The log of a partition; `WrongCall` if `p` is above 15.
@@ -314,7 +320,7 @@ impl Switch {
 
 impl Default for Switch {
     fn default() -> Switch {
-        Switch::new()
+        Switch::idle()
     }
 }
 

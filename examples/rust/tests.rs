@@ -113,9 +113,20 @@ fn words_that_do_not_belong_together_are_no_outcome() {
     }
 }
 
+/// As a static, too.
+#[test]
+fn an_idle_switch_has_inactive_partitions_and_zeros() {
+    static HELD: Switch = Switch::idle();
+    assert!(HELD.windows.iter().all(|word| *word == 0));
+    assert!(HELD.numbers[..64].iter().all(|word| *word == 0));
+    assert_eq!(HELD.numbers[64..], [256; 16]);
+    assert!(HELD.logs.iter().all(|word| *word == 0));
+    assert_eq!((Switch::idle(), Switch::default()), (HELD.clone(), HELD.clone()));
+}
+
 #[test]
 fn a_log_row_is_read_and_printed() {
-    let mut switch = Switch::new();
+    let mut switch = Switch::idle();
     switch.logs[90..].copy_from_slice(&[0x00101000, 20, 1, 0x0300050F, 0x90100000, 0]);
     let row = switch.log(15).expect("partition 15 has a row");
     assert!(row.has(LogBit::Unsupported) && row.has(LogBit::Poisoned));
@@ -149,25 +160,32 @@ mod linked {
     const COMPLETION: [u32; 4] = [0x4A000001, 0x01000004, 0x01470510, 0x11223344];
 
     fn sheet() -> Result<Switch, Refusal> {
-        let mut switch = Switch::new();
+        let mut switch = Switch::idle();
         switch.set_window(1, 0, Window { base: 0x90000000, target: 0x140000000, k: 20, to: 0, marked: false })?;
         switch.set_window(1, 1, Window { base: 0xA0000000, target: 0, k: 12, to: 3, marked: false })?;
         switch.set_entry(1, 2, 0x0300)?;
         for (p, bus) in [(0, 1), (1, 2), (2, 2)] {
             switch.set_bus(p, bus)?;
         }
-        (3..16).try_for_each(|p| switch.make_inactive(p))?;
         Ok(switch)
+    }
+
+    #[test]
+    fn nobody_sends_over_an_idle_switch() {
+        let (mut switch, mut out) = (Switch::idle(), [0xAA; OUT]);
+        for p in 0..16 {
+            assert_eq!(switch.pass(p, &Words(&READ).bytes(), &mut out), Outcome::Dropped(Refusal::SenderInactive));
+        }
+        assert_eq!((switch, out), (Switch::idle(), [0xAA; OUT]));
     }
 
     #[test]
     fn the_table_calls_write_their_words() -> Result<(), Refusal> {
         let mut switch = sheet()?;
-        let mut wanted = Switch::new();
+        let mut wanted = Switch::idle();
         wanted.windows[48..54].copy_from_slice(&[0x90000000, 0x140000000, 0x1014, 0xA0000000, 0, 0x130C]);
         wanted.numbers[6] = 0x10300;
         wanted.numbers[64..67].copy_from_slice(&[1, 2, 2]);
-        wanted.numbers[67..].fill(256);
         assert_eq!(switch, wanted);
         switch.logs[6] = 0x00101000;
         switch.clear_log(1, LogBit::Unsupported.mask())?;
@@ -175,8 +193,8 @@ mod linked {
         switch.clear_log(1, u32::MAX)?;
         (0..2).try_for_each(|slot| switch.empty_window(1, slot))?;
         switch.free_entry(1, 2)?;
-        (0..16).try_for_each(|p| switch.set_bus(p, 0))?;
-        assert_eq!(switch, Switch::new());
+        (0..3).try_for_each(|p| switch.make_inactive(p))?;
+        assert_eq!(switch, Switch::idle());
         Ok(())
     }
 
@@ -355,7 +373,7 @@ mod linked {
             (seed >> 32) as u32
         };
         for round in 0..2000 {
-            let mut switch = Switch::new();
+            let mut switch = Switch::idle();
             switch.windows.fill_with(|| u64::from(any()) << 32 | u64::from(any()));
             switch.numbers.fill_with(|| any() % 512);
             switch.logs.fill_with(&mut any);

@@ -1,17 +1,18 @@
--- A file for each demand and for each change request that adds to them, and those that they share.
-pub mod Bytes
-pub mod CameOut
+-- The demands, and what a change request adds to them, proved.
 pub mod Crossing
-pub mod Demand1
-pub mod Examination
-pub mod Flush
-pub mod Forms
 pub mod Listed
-pub mod Logged
-pub mod Marks
-pub mod NoConfusion
-pub mod Number
-pub mod Outgoing
-pub mod Return
-pub mod Rules
+pub mod Demand1
 pub mod Settled
+pub mod Examination
+pub mod Rules
+pub mod Outgoing
+pub mod CameOut
+pub mod Number
+pub mod NoConfusion
+pub mod Bytes
+pub mod Return
+pub mod Marks
+pub mod Flush
+pub mod Witness
+pub mod MarksWitness
+pub mod FlushWitness

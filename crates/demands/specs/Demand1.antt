@@ -6,15 +6,15 @@ use mathlib.Core.Path.{_≡_}
 use mathlib.Core.Logic.{_⊎_}
 use lib.ListN.{length, take, drop}
 use Rattle.header.specs.Kind.{isRead}
-use Rattle.header.specs.Words.{headerOf}
 use Rattle.header.specs.Fields.{kind}
-use Rattle.tlp.specs.Count.{answerTo}
-use Rattle.tlp.specs.Write.{headerList}
+use Rattle.count.specs.Count.{answerTo}
+use Rattle.wire.specs.Write.{headerList}
 use Rattle.numbers.specs.Buses.{busOf}
 use Rattle.switch.specs.declared.answer.Sent.{Sent}
+use Rattle.routing.specs.Call.{Call, headOf}
+use Rattle.routing.specs.Rule.{busId}
 use Rattle.switch.specs.Answer.{Answer, crossed, answered, dropped, sentOf}
-use Rattle.switch.specs.Rule.{busId}
-use Rattle.demands.specs.Call.{Call, answerOf, outOf, logsOf}
+use Rattle.switch.specs.After.{answerOf, outOf, logsOf}
 use Rattle.demands.specs.Settled.{OtherLogsKept}
 
 -- "a number from the list", for passing: 1, 2, 4 to 9, and R-4's 31 to 36
@@ -24,8 +24,8 @@ OnList n = ((1 ≤ n) × (n ≤ 2)) ⊎ (((4 ≤ n) × (n ≤ 9)) ⊎ ((31 ≤ n
 -- a read alone is answered, by 5 to 8, with the completion that the list names, in the sender's partition: 12 bytes of Out
 pub record AnswersOnly (c : Call) (n : ℕ) (x : Sent) : Type 0 where
   pub listed : (5 ≤ n) × (n ≤ 8)
-  pub read : isRead (kind (headerOf (c .packet))) ≡ true
-  pub answer : x ≡ sentOf (answerTo (headerOf (c .packet)) (busId (busOf (c .numbers) (c .sender)))) (c .sender)
+  pub read : isRead (kind (headOf c)) ≡ true
+  pub answer : x ≡ sentOf (answerTo (headOf c) (busId (busOf (c .tables .numbers) (c .sender)))) (c .sender)
   pub written : take 12 (outOf c) ≡ headerList (x .header)
   pub beyond : drop 12 (outOf c) ≡ drop 12 (c .out)
 

@@ -7,15 +7,15 @@ use lib.ListN.{length, getD, take, drop}
 use Rattle.header.specs.Kind.{isCompletion}
 use Rattle.header.specs.Words.{headerOf}
 use Rattle.header.specs.Fields.{kind, isPoisoned, requesterId, tag, completionRequesterId, completionTag}
-use Rattle.tlp.specs.Form.{packetOf, packetNumber}
-use Rattle.tlp.specs.Write.{packetList}
-use Rattle.windows.specs.Row.{rowOf, leads}
+use Rattle.tlp.specs.Form.{formOf, packetOf, packetNumber}
+use Rattle.wire.specs.Write.{packetList}
 use Rattle.numbers.specs.Buses.{busOf}
 use Rattle.switch.specs.declared.answer.Sent.{Sent}
+use Rattle.routing.specs.Call.{HasWay, Call, headOf, sizeOf, bodyOf}
+use Rattle.routing.specs.Rule.{wrongCall, busId}
 use Rattle.switch.specs.Answer.{crossed}
-use Rattle.switch.specs.Rule.{wrongCall, busId}
-use Rattle.switch.specs.After.{dataOf}
-use Rattle.demands.specs.Call.{Call, answerOf, outOf, logsOf, cameOut, Lent, Passed}
+use Rattle.switch.specs.After.{answerOf, outOf, logsOf}
+use Rattle.demands.specs.Call.{cameOut, Lent, Passed}
 
 -- the requester number that a request came out with
 abbrev pub numberOut : Call → Sent → ℕ
@@ -28,7 +28,7 @@ tagOut c x = tag (headerOf (cameOut c x))
 -- what came out is the record's header and the packet's data, as long as the record says; read again it has the record's header words
 -- and breaks no rule of form; and Out beyond it is as it was
 pub record CameOutWhole (c : Call) (x : Sent) : Type 0 where
-  pub bytes : cameOut c x ≡ packetList (x .header) (dataOf (c .packet))
+  pub bytes : cameOut c x ≡ packetList (x .header) (bodyOf c)
   pub length-is : length (cameOut c x) ≡ x .length
   pub header-is : headerOf (cameOut c x) ≡ x .header
   pub well-formed : packetNumber (packetOf (cameOut c x)) ≡ 0
@@ -40,13 +40,13 @@ AllCameOutWhole = (c : Call) (x : Sent) → Lent c → answerOf c ≡ crossed x 
 
 -- "while the mapping entries stood unchanged"
 abbrev pub SameEntries : Call → Call → Type 0
-SameEntries a b = (i : ℕ) → i < 64 → getD (a .numbers) i 0 ≡ getD (b .numbers) i 0
+SameEntries a b = (i : ℕ) → i < 64 → getD (a .tables .numbers) i 0 ≡ getD (b .tables .numbers) i 0
 
 -- "sent from one partition by one requester with one tag"
 pub record OneSender (a b : Call) : Type 0 where
   pub one-partition : a .sender ≡ b .sender
-  pub one-requester : requesterId (headerOf (a .packet)) ≡ requesterId (headerOf (b .packet))
-  pub one-tag : tag (headerOf (a .packet)) ≡ tag (headerOf (b .packet))
+  pub one-requester : requesterId (headOf a) ≡ requesterId (headOf b)
+  pub one-tag : tag (headOf a) ≡ tag (headOf b)
 
 -- "two requests that passed into the same partition .. If they came out with equal requester number and tag, they were sent" by one
 abbrev pub NoConfusion : Type 0
@@ -59,21 +59,19 @@ NoConfusion =
 pub record Completes (a : Call) (x : Sent) (c : Call) : Type 0 where
   pub lent : Lent c
   pub from-there : c .sender ≡ x .partition
-  pub completion : isCompletion (kind (headerOf (c .packet))) ≡ true
-  pub right-call : wrongCall (c .sender) (length (c .windows)) (length (c .numbers)) (length (c .logs)) (length (c .out)) ≡ false
-  pub well-formed : packetNumber (packetOf (c .packet)) ≡ 0
-  pub that-number : completionRequesterId (headerOf (c .packet)) ≡ numberOut a x
-  pub that-tag : completionTag (headerOf (c .packet)) ≡ tagOut a x
+  pub completion : isCompletion (kind (headOf c)) ≡ true
+  pub right-call : wrongCall (c .sender) (c .tables) (length (c .logs)) (length (c .out)) ≡ false
+  pub well-formed : packetNumber (formOf (sizeOf c) (headOf c)) ≡ 0
+  pub that-number : completionRequesterId (headOf c) ≡ numberOut a x
+  pub that-tag : completionTag (headOf c) ≡ tagOut a x
 
 -- "the entry and both bus numbers are as they were and some window of the sender's to there is in force"; R-3, of a marked completion:
 -- one that has the bit
 pub record Provided (a : Call) (x : Sent) (c : Call) : Type 0 where
-  pub entry : getD (c .numbers) (numberOut a x % 64) 0 ≡ getD (a .numbers) (numberOut a x % 64) 0
-  pub own-bus : busOf (c .numbers) (a .sender) ≡ busOf (a .numbers) (a .sender)
-  pub bus : busOf (c .numbers) (x .partition) ≡ busOf (a .numbers) (x .partition)
-  pub slot : ℕ
-  pub slot-lt : slot < 16
-  pub window : leads (a .sender) (x .partition) (isPoisoned (headerOf (c .packet))) (rowOf (c .windows) (a .sender) slot) ≡ true
+  pub entry : getD (c .tables .numbers) (numberOut a x % 64) 0 ≡ getD (a .tables .numbers) (numberOut a x % 64) 0
+  pub own-bus : busOf (c .tables .numbers) (a .sender) ≡ busOf (a .tables .numbers) (a .sender)
+  pub bus : busOf (c .tables .numbers) (x .partition) ≡ busOf (a .tables .numbers) (x .partition)
+  pub window : HasWay (c .tables) (a .sender) (x .partition) (isPoisoned (headOf c))
 
 -- an ID's two bytes
 abbrev pub idBytes : ℕ → List ℕ
@@ -89,9 +87,9 @@ pub record ComesBack (a c : Call) : Type 0 where
   pub crosses : answerOf c ≡ crossed back
   pub partition : back .partition ≡ a .sender
   pub whole : back .length ≡ length (c .packet)
-  pub bytes : cameOut c back ≡ returnedBytes (c .packet) (busId (busOf (c .numbers) (a .sender))) (requesterId (headerOf (a .packet)))
-  pub own-number : completionRequesterId (headerOf (cameOut c back)) ≡ requesterId (headerOf (a .packet))
-  pub own-tag : completionTag (headerOf (cameOut c back)) ≡ tag (headerOf (a .packet))
+  pub bytes : cameOut c back ≡ returnedBytes (c .packet) (busId (busOf (c .tables .numbers) (a .sender))) (requesterId (headOf a))
+  pub own-number : completionRequesterId (headerOf (cameOut c back)) ≡ requesterId (headOf a)
+  pub own-tag : completionTag (headerOf (cameOut c back)) ≡ tag (headOf a)
   pub beyond : drop (back .length) (outOf c) ≡ drop (back .length) (c .out)
   pub logs : logsOf c ≡ c .logs
 

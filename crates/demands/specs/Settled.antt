@@ -2,16 +2,14 @@
 use Prim.Native.Nat.{ℕ, _+_, _≤_, _<_}
 use mathlib.Core.Bool.{true, false}
 use mathlib.Core.Path.{_≡_}
-use mathlib.Core.List.{List}
 use mathlib.Core.Logic.{_⊎_}
 use lib.ListN.{getD}
 use lib.Bits.{bitOr}
-use Rattle.header.specs.Field.{field}
-use Rattle.header.specs.Words.{headerOf}
+use Rattle.ground.specs.Field.{field}
 use Rattle.header.specs.Fields.{isPoisoned, requesterId, address, completionRequesterId}
 use Rattle.header.specs.Rewrite.{readdressed, renamed, returned}
-use Rattle.windows.specs.Row.{rowOf, destination, inForce, covers, admits, leads}
-use Rattle.windows.specs.Look.{translated}
+use Rattle.look.specs.Look.{AllShut}
+use Rattle.look.specs.declared.Translation.{Translation}
 use Rattle.numbers.specs.Entries.{entryIndex, entryAt}
 use Rattle.numbers.specs.Buses.{busOf}
 use Rattle.numbers.specs.declared.entries.Entry.the-variants.{Held}
@@ -19,41 +17,36 @@ use Rattle.logs.specs.Logs.{rowAt, rowWidth, statusOf, bitNumber, bitMask}
 use Rattle.logs.specs.declared.Bit.{Bit}
 use Rattle.switch.specs.declared.answer.Sent.{Sent}
 use Rattle.switch.specs.declared.after.Logged.the-variants.{Under}
+use Rattle.routing.specs.Call.{Covered, HasWay, Call, headOf}
+use Rattle.routing.specs.Rule.{busId, mappedId, isStopped}
 use Rattle.switch.specs.Answer.{Answer, crossed, answered, dropped, sentOf}
-use Rattle.switch.specs.Rule.{busId, mappedId}
-use Rattle.switch.specs.After.{logBit}
-use Rattle.demands.specs.Call.{Call, answerOf, logsOf}
+use Rattle.switch.specs.After.{logBit, answerOf, logsOf}
 
--- a request: by a window of the sender's in force that covers the address, the lowest such, and, R-3, with the bit where the request is
--- marked; and by an entry of the sender's that holds the requester; and it went where they say
+-- a request: by a way that covers its address, which, R-3, lets marked packets pass where the request is marked; and by an entry of the
+-- sender's that holds the requester; and it went where they say
 pub record RequestPassed (c : Call) (x : Sent) : Type 0 where
-  pub slot : ℕ
-  pub slot-lt : slot < 16
-  pub window : covers (c .sender) (address (headerOf (c .packet))) (rowOf (c .windows) (c .sender) slot) ≡ true
-  pub lowest : (s : ℕ) → s < slot → covers (c .sender) (address (headerOf (c .packet))) (rowOf (c .windows) (c .sender) s) ≡ false
-  pub admitted : admits (isPoisoned (headerOf (c .packet))) (rowOf (c .windows) (c .sender) slot) ≡ true
+  pub way : Translation
+  pub window : Covered (c .tables) (c .sender) (address (headOf c)) way
+  pub admitted : isStopped (headOf c) (way .marked) ≡ false
   pub place : ℕ
   pub place-lt : place < 4
-  pub filled : entryAt (c .numbers) (entryIndex (c .sender) place) ≡ Held (requesterId (headerOf (c .packet)))
+  pub filled : entryAt (c .tables .numbers) (entryIndex (c .sender) place) ≡ Held (requesterId (headOf c))
   pub sent : x ≡ sentOf
-      (renamed (readdressed (headerOf (c .packet)) (translated (rowOf (c .windows) (c .sender) slot) (address (headerOf (c .packet))) .address))
-      (mappedId (busOf (c .numbers) (destination (rowOf (c .windows) (c .sender) slot))) (entryIndex (c .sender) place)))
-      (destination (rowOf (c .windows) (c .sender) slot))
+      (renamed (readdressed (headOf c) (way .address)) (mappedId (busOf (c .tables .numbers) (way .destination)) (entryIndex (c .sender) place)))
+      (way .destination)
 
--- a completion: by a held entry of its owner's, which the number names, and a window of the owner's in force to the sender, R-3, with the
--- bit where the completion is marked; and it went to that owner
+-- a completion: by a held entry of its owner's, which the number names, and a way of the owner's to the sender, R-3, for packets so
+-- marked; and it went to that owner
 pub record CompletionPassed (c : Call) (x : Sent) : Type 0 where
   pub owner : ℕ
   pub owner-lt : owner < 16
   pub place : ℕ
   pub place-lt : place < 4
-  pub number : completionRequesterId (headerOf (c .packet)) ≡ mappedId (busOf (c .numbers) (c .sender)) (entryIndex owner place)
+  pub number : completionRequesterId (headOf c) ≡ mappedId (busOf (c .tables .numbers) (c .sender)) (entryIndex owner place)
   pub id : ℕ
-  pub filled : entryAt (c .numbers) (entryIndex owner place) ≡ Held id
-  pub slot : ℕ
-  pub slot-lt : slot < 16
-  pub window : leads owner (c .sender) (isPoisoned (headerOf (c .packet))) (rowOf (c .windows) owner slot) ≡ true
-  pub sent : x ≡ sentOf (returned (headerOf (c .packet)) id (busId (busOf (c .numbers) owner))) owner
+  pub filled : entryAt (c .tables .numbers) (entryIndex owner place) ≡ Held id
+  pub window : HasWay (c .tables) owner (c .sender) (isPoisoned (headOf c))
+  pub sent : x ≡ sentOf (returned (headOf c) id (busId (busOf (c .tables .numbers) owner))) owner
 
 -- the list's bit of refusal n is set in the sender's status, and every other bit of it kept
 pub record IsLogged (c : Call) (n : ℕ) : Type 0 where
@@ -82,10 +75,7 @@ Fate c (dropped n) = AtHome c n
 abbrev pub Settles : Type 0
 Settles = (c : Call) → Fate c (answerOf c)
 
--- an examination: "she keeps them shut", no row of any partition is in force
-abbrev pub AllShut : List ℕ → Type 0
-AllShut windows = (p s : ℕ) → p ≤ 15 → s < 16 → inForce p (rowOf windows p s) ≡ false
-
--- then nothing crosses, whatever the packet and the other tables are
+-- an examination: "she keeps them shut", no row of any partition is in force. Then nothing crosses, whatever the packet and the other
+-- tables are
 abbrev pub NothingCrosses : Type 0
-NothingCrosses = (c : Call) (x : Sent) → AllShut (c .windows) → answerOf c ≡ crossed x → ⊥
+NothingCrosses = (c : Call) (x : Sent) → AllShut (c .tables .windows) → answerOf c ≡ crossed x → ⊥

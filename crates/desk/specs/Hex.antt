@@ -2,8 +2,8 @@
 use Prim.Native.Nat.{ℕ, _+_}
 use mathlib.Core.List.{List, [], _∷_}
 use lib.Dec.{ltb}
-use Rattle.header.specs.Pick.{pick}
-use Rattle.header.specs.Field.{field}
+use Rattle.ground.specs.Pick.{pick}
+use Rattle.ground.specs.Field.{field}
 
 -- a digit of 0 to 15: 0 stands at 48, A, which is 10, at 65
 abbrev pub hexDigit : ℕ → ℕ

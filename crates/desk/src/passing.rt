@@ -1,10 +1,8 @@
 // One packet over the exam sheet's tables, with empty logs.
 ghost use mathlib.Core.Path.{_≡_};
-ghost use lib.ListN.{length};
 ghost use Rattle.switch.specs.Answer.{onPaper};
-ghost use Rattle.switch.specs.Rule.{passRule};
-ghost use Rattle.switch.specs.After.{outAfter};
-ghost use Rattle.sheet.specs.Tables.{windows, numbers};
+ghost use Rattle.switch.specs.After.{answerOf, outOf};
+ghost use Rattle.sheet.specs.Cases.{overSheet};
 ghost use Rattle.desk.specs.Passing.{OutOfInput};
 use crate::line;
 use libc::STDIN_FILENO;
@@ -14,8 +12,8 @@ use switch::pass;
 
 // Passes a packet from `p` over the sheet.
 pub fn over_sheet(p: u32, packet: &[u8], out: &mut [u8]) -> Outcome
-    ensures { λ r. ⌜ onPaper r ≡ passRule p (now (packet .entry)) windows numbers 96 (length (now (out .entry))) ⌝ }
-    ensures { λ r. ⌜ now (out .exit) ≡ outAfter (onPaper r) (now (packet .entry)) (now (out .entry)) ⌝ }
+    ensures { λ r. ⌜ onPaper r ≡ answerOf (overSheet p (now (packet .entry)) (now (out .entry))) ⌝ }
+    ensures { λ r. ⌜ now (out .exit) ≡ outOf (overSheet p (now (packet .entry)) (now (out .entry))) ⌝ }
 {
     let windows = sheet::lent::windows();
     let mut numbers = sheet::lent::numbers();

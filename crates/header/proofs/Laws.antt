@@ -1,7 +1,4 @@
 -- Laws of the header's definitions: what the functions' proofs share, and what the layers above cite.
-pub mod Pick
-pub mod Join
-pub mod Field
 pub mod Lengths
 pub mod Words
 pub mod Rewrite

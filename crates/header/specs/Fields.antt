@@ -1,10 +1,13 @@
 -- "Headers used": every field of a header by its name.
 use Prim.Native.Nat.{ℕ, _+_, _*_, _^_}
 use mathlib.Core.Bool.{Bool}
+use mathlib.Core.List.{List}
 use lib.Dec.{eqb}
-use Rattle.header.specs.Pick.{pick}
-use Rattle.header.specs.Field.{field, place}
+use lib.ListN.{drop}
+use Rattle.ground.specs.Pick.{pick}
+use Rattle.ground.specs.Field.{field, place}
 use Rattle.header.specs.Kind.{hasData, hasFourWords, headerBytes}
+use Rattle.header.specs.Words.{headerOf}
 use Rattle.header.specs.declared.words.Header.{Header}
 
 -- word 0: "kind in 31:24"
@@ -46,6 +49,10 @@ dataBytes h = pick (hasData (kind h)) (4 * dwords h) 0
 -- the whole packet's length: header, then data
 abbrev pub totalBytes : Header → ℕ
 totalBytes h = headerBytes (kind h) + dataBytes h
+
+-- a packet's data: what follows its header
+abbrev pub dataOf : List ℕ → List ℕ
+dataOf s = drop (headerBytes (kind (headerOf s))) s
 
 -- request word 1: "requester ID 31:16"
 abbrev pub requesterId : Header → ℕ

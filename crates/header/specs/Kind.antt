@@ -2,8 +2,8 @@
 use Prim.Native.Nat.{ℕ}
 use mathlib.Core.Bool.{Bool, _||_}
 use lib.Dec.{eqb}
-use Rattle.header.specs.Pick.{pick}
-use Rattle.header.specs.Field.{field}
+use Rattle.ground.specs.Pick.{pick}
+use Rattle.ground.specs.Field.{field}
 
 -- "0x00 .. read", with a 32-bit address
 abbrev pub read32 : ℕ
@@ -36,6 +36,10 @@ isRead k = eqb k read32 || eqb k read64
 -- a memory write
 abbrev pub isWrite : ℕ → Bool
 isWrite k = eqb k write32 || eqb k write64
+
+-- a request, of either sort
+abbrev pub isRequest : ℕ → Bool
+isRequest k = isRead k || isWrite k
 
 -- a completion, with data or without
 abbrev pub isCompletion : ℕ → Bool

@@ -1,6 +1,4 @@
 -- What header words mean: paper 01's "Headers used", and the fields that crossing rewrites.
-pub mod Pick
-pub mod Field
 pub mod Kind
 pub mod Words
 pub mod Fields

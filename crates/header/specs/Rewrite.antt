@@ -1,8 +1,8 @@
 -- The rewritten fields of a packet that crosses: each says which field becomes what, and keeps every other bit.
 use Prim.Native.Nat.{ℕ, _^_}
 use lib.Dec.{leb}
-use Rattle.header.specs.Pick.{pick}
-use Rattle.header.specs.Field.{field, withField}
+use Rattle.ground.specs.Pick.{pick}
+use Rattle.ground.specs.Field.{field, withField}
 use Rattle.header.specs.Fields.{lowWord}
 use Rattle.header.specs.declared.words.Header.{Header}
 

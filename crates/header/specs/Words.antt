@@ -2,8 +2,8 @@
 use Prim.Native.Nat.{ℕ, _+_}
 use mathlib.Core.List.{List, [], _∷_}
 use lib.ListN.{getD}
-use Rattle.header.specs.Pick.{pick}
-use Rattle.header.specs.Field.{field, place}
+use Rattle.ground.specs.Pick.{pick}
+use Rattle.ground.specs.Field.{field, place}
 use Rattle.header.specs.Kind.{hasFourWords}
 use Rattle.header.specs.declared.words.Header.{Header}
 

@@ -1,7 +1,7 @@
 // A field of a 32-bit word, by the place of its lowest bit and its width.
 ghost use mathlib.Core.Path.{_≡_};
 ghost use Prim.Native.Nat.{_+_, _≤_, _<_, _^_};
-ghost use Rattle.header.specs.Field.{field, withField};
+ghost use Rattle.ground.specs.Field.{field, withField};
 
 // The field that is `width` bits wide, its lowest bit at `low`.
 pub(crate) fn field(w: u32, low: u32, width: u32) -> u32

@@ -18,9 +18,6 @@ ghost use Rattle.header.specs.Fields.{
   highWord,
   lowWord,
   address,
-  completerId,
-  status,
-  byteCountModified,
   byteCountField,
   completionRequesterId,
   completionTag,
@@ -187,27 +184,6 @@ impl Header {
 
 // The words of a completion.
 impl Header {
-    // "completer ID 31:16"
-    pub fn completer_id(self) -> u16
-        ensures { λ r. ⌜ r ≡ completerId self ⌝ }
-    {
-        field(self.w1, 16, 16) as u16
-    }
-
-    // "status 15:13"
-    pub fn status(self) -> u8
-        ensures { λ r. ⌜ r ≡ status self ⌝ }
-    {
-        field(self.w1, 13, 3) as u8
-    }
-
-    // "BCM 12"
-    pub fn byte_count_modified(self) -> u8
-        ensures { λ r. ⌜ r ≡ byteCountModified self ⌝ }
-    {
-        field(self.w1, 12, 1) as u8
-    }
-
     // "byte count 11:0", as it is written: 0 is 4,096
     pub fn byte_count_field(self) -> u16
         ensures { λ r. ⌜ r ≡ byteCountField self ⌝ }

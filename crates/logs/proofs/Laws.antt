@@ -1,2 +1,3 @@
 -- Laws of the logs.
 pub mod Frame
+pub mod Status

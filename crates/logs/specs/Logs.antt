@@ -2,11 +2,11 @@
 use Prim.Native.Nat.{ℕ, _+_, _-_, _*_, _^_}
 use mathlib.Core.List.{List}
 use lib.ListN.{length, getD, set}
-use lib.Dec.{eqb, leb}
+use lib.Dec.{eqb}
 use lib.Bits.{bitAnd, bitOr}
-use Rattle.header.specs.Pick.{pick}
+use Rattle.ground.specs.Pick.{pick}
 use Rattle.header.specs.declared.words.Header.{Header}
-use Rattle.tables.specs.Answer.{wrongTable, edited}
+use Rattle.ground.specs.Table.{wrongTable, edited}
 use Rattle.logs.specs.declared.Bit.{Bit}
 use Rattle.logs.specs.declared.Bit.the-variants.{Poisoned, UnexpectedCompletion, Malformed, Unsupported}
 
@@ -37,17 +37,15 @@ bitNumber Unsupported = 20
 abbrev pub bitMask : Bit → ℕ
 bitMask b = 2 ^ bitNumber b
 
--- "first error becomes the bit number and the header words" those of the packet
+-- "first error becomes the bit number and the header words" those of the packet, in the row that begins at `row`
 unfoldable pub noted : ℕ → Bit → Header → List ℕ → List ℕ
-noted p b h logs =
-    set (set (set (set (set logs (rowAt p + 1) (bitNumber b)) (rowAt p + 2) (h .w0)) (rowAt p + 3) (h .w1)) (rowAt p + 4) (h .w2)) (rowAt p + 5) (h .w3)
+noted row b h logs =
+    set (set (set (set (set logs (row + 1) (bitNumber b)) (row + 2) (h .w0)) (row + 3) (h .w1)) (row + 4) (h .w2)) (row + 5) (h .w3)
 
--- an error in the row of p: the first "if status was 0", "then the bit is set in status"; a table too short for the row stays
+-- an error in the row of p: the first "if status was 0", "then the bit is set in status"
 unfoldable pub recorded : ℕ → Bit → Header → List ℕ → List ℕ
 recorded p b h logs =
-    pick (leb (rowAt p + rowWidth) (length logs))
-    (set (pick (eqb (statusOf p logs) 0) (noted p b h logs) logs) (rowAt p) (bitOr (statusOf p logs) (bitMask b)))
-    logs
+    set (pick (eqb (statusOf p logs) 0) (noted (rowAt p) b h logs) logs) (rowAt p) (bitOr (statusOf p logs) (bitMask b))
 
 -- "clear in a log's status the bits given as ones": refusal 1
 unfoldable pub clearNumber : ℕ → List ℕ → ℕ

@@ -4,8 +4,8 @@ use mathlib.Core.Bool.{Bool, _||_}
 use mathlib.Core.List.{List}
 use lib.ListN.{length, getD, set}
 use lib.Dec.{ltb}
-use Rattle.header.specs.Pick.{pick}
-use Rattle.tables.specs.Answer.{wrongTable, edited}
+use Rattle.ground.specs.Pick.{pick}
+use Rattle.ground.specs.Table.{wrongTable, edited}
 use Rattle.numbers.specs.Entries.{tableLength}
 
 -- "the first 64 are mapping entries .. then 16 bus words"

@@ -4,10 +4,10 @@ use mathlib.Core.Bool.{Bool, false, not, _&&_, _||_}
 use mathlib.Core.List.{List}
 use lib.ListN.{length, getD, set}
 use lib.Dec.{eqb, ltb}
-use Rattle.header.specs.Pick.{pick}
-use Rattle.header.specs.Field.{field, place}
-use Rattle.tables.specs.Scan.{first}
-use Rattle.tables.specs.Answer.{wrongTable, edited}
+use Rattle.ground.specs.Pick.{pick}
+use Rattle.ground.specs.Field.{field, place}
+use Rattle.ground.specs.Scan.{first}
+use Rattle.ground.specs.Table.{wrongTable, edited}
 use Rattle.numbers.specs.declared.entries.Entry.{Entry}
 use Rattle.numbers.specs.declared.entries.Entry.the-variants.{Free, Held}
 use Rattle.numbers.specs.declared.entries.Found.{Found}

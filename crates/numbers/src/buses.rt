@@ -1,6 +1,5 @@
 // "Numbers": the bus words, and the calls that edit them.
 ghost use mathlib.Core.Path.{_≡_};
-ghost use Rattle.tables.specs.Answer.{answerNumber};
 ghost use Rattle.numbers.specs.Buses.{
   busOf,
   isActive,
@@ -10,13 +9,15 @@ ghost use Rattle.numbers.specs.Buses.{
   makeInactiveAfter,
 };
 use crate::entries::Numbers;
-use tables::Answer;
+use ground::table;
+use ground::table::DONE;
+use ground::table::WRONG_CALL;
 
 // The bus word of a partition.
 pub fn bus(numbers: &[u32], p: u8) -> u32
     ensures { λ r. ⌜ r ≡ busOf (now (numbers .entry)) p ⌝ }
 {
-    tables::word_32(numbers, 64 + (p as usize))
+    table::word_32(numbers, Numbers::ENTRIES + (p as usize))
 }
 
 // "0..255 is that partition's bus; any other value means inactive".
@@ -27,25 +28,25 @@ pub fn is_active(numbers: &[u32], p: u8) -> bool
 }
 
 // Sets a partition's bus.
-pub fn set_bus(p: u32, bus: u32, numbers: &mut [u32]) -> Answer
-    ensures { λ r. ⌜ answerNumber r ≡ setBusNumber p bus (now (numbers .entry)) ⌝ }
+pub fn set_bus(p: u32, bus: u32, numbers: &mut [u32]) -> u32
+    ensures { λ r. ⌜ r ≡ setBusNumber p bus (now (numbers .entry)) ⌝ }
     ensures { λ r. ⌜ now (numbers .exit) ≡ setBusAfter p bus (now (numbers .entry)) ⌝ }
 {
-    if tables::wrong_table(p, numbers.len(), Numbers::LENGTH) | (255 < bus) {
-        return Answer::WrongCall;
+    if table::wrong_table(p, numbers.len(), Numbers::LENGTH) | (255 < bus) {
+        return WRONG_CALL;
     }
-    numbers[64 + (p as usize)] = bus;
-    Answer::Done
+    table::put_32(numbers, Numbers::ENTRIES + (p as usize), bus);
+    DONE
 }
 
 // Makes a partition inactive: its bus word becomes 256.
-pub fn make_inactive(p: u32, numbers: &mut [u32]) -> Answer
-    ensures { λ r. ⌜ answerNumber r ≡ makeInactiveNumber p (now (numbers .entry)) ⌝ }
+pub fn make_inactive(p: u32, numbers: &mut [u32]) -> u32
+    ensures { λ r. ⌜ r ≡ makeInactiveNumber p (now (numbers .entry)) ⌝ }
     ensures { λ r. ⌜ now (numbers .exit) ≡ makeInactiveAfter p (now (numbers .entry)) ⌝ }
 {
-    if tables::wrong_table(p, numbers.len(), Numbers::LENGTH) {
-        return Answer::WrongCall;
+    if table::wrong_table(p, numbers.len(), Numbers::LENGTH) {
+        return WRONG_CALL;
     }
-    numbers[64 + (p as usize)] = 256;
-    Answer::Done
+    table::put_32(numbers, Numbers::ENTRIES + (p as usize), 256);
+    DONE
 }

@@ -1,6 +1,5 @@
 // "Numbers": the mapping entries, what a word of one means, the look-up, and the calls that edit them.
 ghost use mathlib.Core.Path.{_≡_};
-ghost use Rattle.tables.specs.Answer.{answerNumber};
 ghost use Rattle.numbers.specs.Entries.{
   lookAt,
   holdsId,
@@ -16,7 +15,12 @@ ghost use Rattle.numbers.specs.Entries.{
   freeEntryNumber,
   freeEntryAfter,
 };
-use tables::Answer;
+use ground::table;
+use ground::table::DONE;
+use ground::table::WRONG_CALL;
+
+// The refusal of setting an entry besides 1, by its number: "another slot of the owner holds this ID".
+pub const REPETITION: u32 = 12;
 
 // What a mapping word says.
 pub enum Entry {
@@ -68,7 +72,7 @@ impl Entry {
 pub fn entry_at(numbers: &[u32], i: u16) -> Entry
     ensures { λ r. ⌜ r ≡ entryAt (now (numbers .entry)) i ⌝ }
 {
-    look(tables::word_32(numbers, i as usize))
+    look(table::word_32(numbers, i as usize))
 }
 
 // Slot `s` of partition `p` holds this ID.
@@ -129,32 +133,36 @@ fn held_elsewhere(numbers: &[u32], p: u8, slot: u8, id: u16) -> bool
 fn wrong_entry(p: u32, slot: u32, have: usize) -> bool
     ensures { λ r. ⌜ r ≡ wrongEntry p slot have ⌝ }
 {
-    tables::wrong_table(p, have, Numbers::LENGTH) | (3 < slot)
+    table::wrong_table(p, have, Numbers::LENGTH) | (3 < slot)
 }
 
 // Sets an entry: slot `slot` of partition `p` holds this ID from now on.
-pub fn set_entry(p: u32, slot: u32, id: u16, numbers: &mut [u32]) -> Answer
-    ensures { λ r. ⌜ answerNumber r ≡ setEntryNumber p slot id (now (numbers .entry)) ⌝ }
+pub fn set_entry(p: u32, slot: u32, id: u16, numbers: &mut [u32]) -> u32
+    ensures { λ r. ⌜ r ≡ setEntryNumber p slot id (now (numbers .entry)) ⌝ }
     ensures { λ r. ⌜ now (numbers .exit) ≡ setEntryAfter p slot id (now (numbers .entry)) ⌝ }
 {
     if wrong_entry(p, slot, numbers.len()) {
-        return Answer::WrongCall;
+        return WRONG_CALL;
     }
     if held_elsewhere(numbers, p as u8, slot as u8, id) {
-        return Answer::Repetition;
+        return REPETITION;
     }
-    numbers[(4 * p + slot) as usize] = 0x0001_0000 + (id as u32);
-    Answer::Done
+    table::put_32(
+        numbers,
+        4 * (p as usize) + (slot as usize),
+        0x0001_0000 + (id as u32),
+    );
+    DONE
 }
 
 // Frees an entry: its word becomes 0.
-pub fn free_entry(p: u32, slot: u32, numbers: &mut [u32]) -> Answer
-    ensures { λ r. ⌜ answerNumber r ≡ freeEntryNumber p slot (now (numbers .entry)) ⌝ }
+pub fn free_entry(p: u32, slot: u32, numbers: &mut [u32]) -> u32
+    ensures { λ r. ⌜ r ≡ freeEntryNumber p slot (now (numbers .entry)) ⌝ }
     ensures { λ r. ⌜ now (numbers .exit) ≡ freeEntryAfter p slot (now (numbers .entry)) ⌝ }
 {
     if wrong_entry(p, slot, numbers.len()) {
-        return Answer::WrongCall;
+        return WRONG_CALL;
     }
-    numbers[(4 * p + slot) as usize] = 0;
-    Answer::Done
+    table::put_32(numbers, 4 * (p as usize) + (slot as usize), 0);
+    DONE
 }

@@ -1,7 +1,4 @@
--- The cases, and what they witness.
+-- The cases, and the rules of form on packets.
 pub mod Cases
 pub mod Short
-pub mod Witness
-pub mod Flush
-pub mod Marks
 pub mod Rules

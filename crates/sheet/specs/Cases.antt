@@ -4,8 +4,10 @@ use mathlib.Core.List.{List, [], _∷_, _++_}
 use lib.ListN.{replicate, take}
 use Rattle.header.specs.Words.{wordBytes}
 use Rattle.header.specs.declared.words.Header.{Header}
+use Rattle.routing.specs.Call.{lent, Call, callOf}
 use Rattle.switch.specs.Answer.{Answer, crossed, answered, dropped}
 use Rattle.switch.specs.declared.answer.Sent.{Sent}
+use Rattle.sheet.specs.Tables.{windows, numbers, logs}
 
 -- words on the wire
 abbrev pub wire : List ℕ → List ℕ
@@ -182,3 +184,7 @@ caseN = record {
 -- the sheet's proved cases; L, which is of byte counts, stands beside them
 abbrev pub cases : List Case
 cases = caseA ∷ caseB ∷ caseC ∷ caseD ∷ caseE ∷ caseF ∷ caseG ∷ caseH ∷ caseI ∷ caseJ ∷ caseK ∷ caseKnone ∷ caseM ∷ caseN ∷ []
+
+-- a packet from p over the sheet's tables and empty logs, as a call over some Out
+abbrev pub overSheet : ℕ → List ℕ → List ℕ → Call
+overSheet p packet out = callOf p packet (lent windows numbers) logs out

@@ -1,17 +1,18 @@
 -- R-4's rules on packets that partition 1 sends: all the rules that each breaks, and the number that it gets, the first of them.
 use Prim.Native.Nat.{ℕ}
 use mathlib.Core.List.{List, [], _∷_}
-use lib.ListN.{take}
-use Rattle.header.specs.Pick.{pick}
+use lib.ListN.{length, take}
+use Rattle.ground.specs.Pick.{pick}
+use Rattle.header.specs.Words.{headerOf}
 use Rattle.tlp.specs.Form.{ruleNumber}
 use Rattle.tlp.specs.declared.form.Rule.{Rule}
-use Rattle.demands.specs.Rules.{breaks}
+use Rattle.tlp.specs.Rules.{breaks}
 use Rattle.sheet.specs.Cases.{wire, caseE, caseK, caseN}
 
 -- of these rules the numbers of those that a packet breaks
 abbrev pub brokenOf : List Rule → List ℕ → List ℕ
 brokenOf [] s = []
-brokenOf (r ∷ rest) s = pick (breaks r s) (ruleNumber r ∷ brokenOf rest s) (brokenOf rest s)
+brokenOf (r ∷ rest) s = pick (breaks r (length s) (headerOf s)) (ruleNumber r ∷ brokenOf rest s) (brokenOf rest s)
 
 -- a packet, the numbers of all rules that it breaks, and the number that it gets
 pub record Faulty : Type 0 where

@@ -1,4 +1,3 @@
 -- Laws of the calls for C.
 pub mod Call
 pub mod Eight
-pub mod Small

@@ -1,30 +1,20 @@
 -- What C sees as numbers: a choice, the number that a call returns, and the eight words of an answer.
 use Prim.Native.Nat.{ℕ}
 use mathlib.Core.Bool.{Bool, not}
+use mathlib.Core.Path.{_≡_}
 use mathlib.Core.List.{List, [], _∷_}
 use lib.ListN.{length}
 use lib.Dec.{eqb, ltb}
-use Rattle.header.specs.Pick.{pick}
-use Rattle.tlp.specs.Write.{over}
+use Rattle.ground.specs.Pick.{pick}
+use Rattle.wire.specs.Write.{over}
 use Rattle.switch.specs.declared.answer.Sent.{Sent}
-use Rattle.switch.specs.Answer.{Answer, crossed, answered, dropped}
-use Rattle.switch.specs.Rule.{passRule}
+use Rattle.routing.specs.Call.{Call, headOf, bodyOf}
+use Rattle.switch.specs.Answer.{Answer, crossed, answered, dropped, numberOf}
+use Rattle.switch.specs.After.{outAfter, logsAfter, answerOf}
 
 -- a choice that is given as a number: 0 is no, and any other is yes
 abbrev pub isYes : ℕ → Bool
 isYes n = not (eqb n 0)
-
--- the number that is returned: 0 for crossed, else the refusal's
-abbrev pub numberOf : Answer → ℕ
-numberOf (crossed s) = 0
-numberOf (answered n s) = n
-numberOf (dropped n) = n
-
--- how many bytes came out
-abbrev pub lengthOf : Answer → ℕ
-lengthOf (crossed s) = s .length
-lengthOf (answered n s) = s .length
-lengthOf (dropped n) = 0
 
 -- an outcome with its record: outcome, partition, length, word count, the four header words
 abbrev pub recordWords : ℕ → Sent → List ℕ
@@ -39,9 +29,20 @@ answerWords (dropped n) = 2 ∷ 0 ∷ 0 ∷ 0 ∷ 0 ∷ 0 ∷ 0 ∷ 0 ∷ []
 
 -- the buffer after the words were written over its start; a shorter one stays as it is
 abbrev pub answerAfter : List ℕ → List ℕ → List ℕ
-answerAfter words answer = over answer 0 words
+answerAfter words buffer = over buffer 0 words
 
 -- the passing rule, where a buffer for the answer of fewer than eight words is refusal 1 before all else
-unfoldable pub callRule : ℕ → List ℕ → List ℕ → List ℕ → List ℕ → List ℕ → List ℕ → Answer
-callRule p packet windows numbers logs out answer =
-    pick (ltb (length answer) 8) (dropped 1) (passRule p packet windows numbers (length logs) (length out))
+unfoldable pub callRule : Call → List ℕ → Answer
+callRule c buffer = pick (ltb (length buffer) 8) (dropped 1) (answerOf c)
+
+-- what a call leaves where it gets the answer a: the number returned, Out, the logs, the numbers and the buffer for the answer
+pub record Leaves (c : Call) (a : Answer) (buffer : List ℕ) (n : ℕ) (out logs numbers words : List ℕ) : Type 0 where
+  pub number : n ≡ numberOf a
+  pub out-is : out ≡ outAfter a (bodyOf c) (c .out)
+  pub logs-are : logs ≡ logsAfter a (c .sender) (headOf c) (c .logs)
+  pub numbers-kept : numbers ≡ c .tables .numbers
+  pub words-are : words ≡ answerAfter (answerWords a) buffer
+
+-- what `siphon_pass` leaves: that of the rule's answer
+abbrev pub Called : Call → List ℕ → ℕ → List ℕ → List ℕ → List ℕ → List ℕ → Type 0
+Called c buffer n out logs numbers words = Leaves c (callRule c buffer) buffer n out logs numbers words

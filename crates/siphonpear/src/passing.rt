@@ -2,9 +2,9 @@
 ghost use mathlib.Core.Path.{_≡_};
 ghost use Prim.Native.Nat.{_≤_};
 ghost use lib.ListN.{length};
-ghost use Rattle.switch.specs.Answer.{onPaper};
-ghost use Rattle.switch.specs.After.{outAfter, logsAfter};
-ghost use Rattle.siphonpear.specs.Abi.{numberOf, lengthOf, recordWords, answerWords, answerAfter, callRule};
+ghost use Rattle.routing.specs.Call.{lent, callOf};
+ghost use Rattle.switch.specs.Answer.{onPaper, numberOf, lengthOf};
+ghost use Rattle.siphonpear.specs.Abi.{recordWords, answerWords, answerAfter, Called};
 use header::words::Header;
 use switch::answer::Outcome;
 use switch::answer::Sent;
@@ -84,11 +84,7 @@ pub extern "C" fn siphon_pass(
     out: &mut [u8],
     answer: &mut [u32],
 ) -> u32
-    ensures { λ r. ⌜ r ≡ numberOf (callRule p (now (packet .entry)) (now (windows .entry)) (now (numbers .entry)) (now (logs .entry)) (now (out .entry)) (now (answer .entry))) ⌝ }
-    ensures { λ r. ⌜ now (numbers .exit) ≡ now (numbers .entry) ⌝ }
-    ensures { λ r. ⌜ now (logs .exit) ≡ logsAfter (callRule p (now (packet .entry)) (now (windows .entry)) (now (numbers .entry)) (now (logs .entry)) (now (out .entry)) (now (answer .entry))) p (now (packet .entry)) (now (logs .entry)) ⌝ }
-    ensures { λ r. ⌜ now (out .exit) ≡ outAfter (callRule p (now (packet .entry)) (now (windows .entry)) (now (numbers .entry)) (now (logs .entry)) (now (out .entry)) (now (answer .entry))) (now (packet .entry)) (now (out .entry)) ⌝ }
-    ensures { λ r. ⌜ now (answer .exit) ≡ answerAfter (answerWords (callRule p (now (packet .entry)) (now (windows .entry)) (now (numbers .entry)) (now (logs .entry)) (now (out .entry)) (now (answer .entry)))) (now (answer .entry)) ⌝ }
+    ensures { λ r. ⌜ Called (callOf p (now (packet .entry)) (lent (now (windows .entry)) (now (numbers .entry))) (now (logs .entry)) (now (out .entry))) (now (answer .entry)) r (now (out .exit)) (now (logs .exit)) (now (numbers .exit)) (now (answer .exit)) ⌝ }
 {
     if answer.len() < ANSWER_LENGTH {
         return 1;

@@ -1,5 +1,8 @@
 -- Laws of passing.
-pub mod Call
+pub mod Logged
+pub mod Gate
+pub mod Carried
 pub mod Frame
 pub mod Paper
-pub mod Sender
+pub mod Small
+pub mod Listed

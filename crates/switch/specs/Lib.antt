@@ -1,5 +1,3 @@
--- What passing a packet means.
+-- What passing a packet means: what comes back, and what it changes.
 pub mod Answer
-pub mod Rule
-pub mod Steps
 pub mod After

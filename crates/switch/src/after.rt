@@ -1,16 +1,13 @@
 // What passing changes: Out and the sender's log, as the outcome says.
 ghost use mathlib.Core.Path.{_≡_};
-ghost use mathlib.Core.List.{List};
-ghost use Prim.Native.Nat.{ℕ};
-ghost use Rattle.header.specs.Words.{headerOf};
 ghost use Rattle.tlp.specs.Form.{ruleNumber};
-ghost use Rattle.switch.specs.Answer.{refusalNumber, onPaper};
-ghost use Rattle.switch.specs.After.{dataOf, outAfter, logBit, logged, logsAfter};
+ghost use Rattle.routing.specs.Refusal.{refusalNumber};
+ghost use Rattle.switch.specs.Answer.{onPaper};
+ghost use Rattle.switch.specs.After.{outAfter, logBit, logged, logsAfter};
 use crate::answer::Outcome;
-use crate::answer::Refusal;
-use header::words;
 use header::words::Header;
 use logs::Bit;
+use routing::refusal::Refusal;
 use tlp::form::Rule;
 
 // Whether a refusal is logged, and under which bit.
@@ -34,45 +31,34 @@ fn rule_bit(rule: Rule) -> Logged
     }
 }
 
-impl Refusal {
-    // The list's column "Log bit".
-    pub fn log_bit(self) -> Logged
-        ensures { λ r. ⌜ r ≡ logBit (refusalNumber self) ⌝ }
-    {
-        match self {
-            Refusal::WrongCall => Logged::No,
-            Refusal::SenderInactive => Logged::No,
-            Refusal::Broken(rule) => rule_bit(rule),
-            Refusal::Poisoned => Logged::Under(Bit::Poisoned),
-            Refusal::NoWindow => Logged::Under(Bit::Unsupported),
-            Refusal::NoEntry => Logged::Under(Bit::Unsupported),
-            Refusal::DestinationInactive => Logged::Under(Bit::Unsupported),
-            Refusal::NotPassable => Logged::Under(Bit::UnexpectedCompletion),
-        }
+// The list's column "Log bit".
+pub fn log_bit(refusal: Refusal) -> Logged
+    ensures { λ r. ⌜ r ≡ logBit (refusalNumber refusal) ⌝ }
+{
+    match refusal {
+        Refusal::WrongCall => Logged::No,
+        Refusal::SenderInactive => Logged::No,
+        Refusal::Broken(rule) => rule_bit(rule),
+        Refusal::Poisoned => Logged::Under(Bit::Poisoned),
+        Refusal::NoWindow => Logged::Under(Bit::Unsupported),
+        Refusal::NoEntry => Logged::Under(Bit::Unsupported),
+        Refusal::DestinationInactive => Logged::Under(Bit::Unsupported),
+        Refusal::NotPassable => Logged::Under(Bit::UnexpectedCompletion),
     }
 }
 
-// What follows the header `h` of a packet.
-fn data_of(packet: &[u8], h: Header) -> &[u8]
-    requires { ⌜ h ≡ headerOf (now packet) ⌝ }
-    ensures { λ r. ⌜ now r ≡ dataOf (now (packet .entry)) ⌝ }
-{
-    words::after(packet, h.header_bytes())
-}
-
-// Writes what came out of a packet with the header `h`, if anything did.
-pub(crate) fn write_out(outcome: Outcome, packet: &[u8], h: Header, out: &mut [u8])
-    requires { ⌜ h ≡ headerOf (now packet) ⌝ }
-    ensures { λ r. ⌜ now (out .exit) ≡ outAfter (onPaper outcome) (now (packet .entry)) (now (out .entry)) ⌝ }
+// Writes what came out of a packet with these data, if anything did.
+pub(crate) fn write_out(outcome: Outcome, body: &[u8], out: &mut [u8])
+    ensures { λ r. ⌜ now (out .exit) ≡ outAfter (onPaper outcome) (now (body .entry)) (now (out .entry)) ⌝ }
 {
     match outcome {
         Outcome::Crossed(sent) => {
             let header = sent.header;
-            tlp::write::write(header, data_of(packet, h), out);
+            wire::write(header, body, out);
         }
         Outcome::Answered(_, sent) => {
             let header = sent.header;
-            tlp::write::write(header, b"", out);
+            wire::write(header, b"", out);
         }
         Outcome::Dropped(_) => {}
     }
@@ -90,11 +76,11 @@ fn log(entry: Logged, p: u8, h: Header, logs: &mut [u32])
 
 // Logs what was refused, of a packet with the header `h`.
 pub(crate) fn write_log(outcome: Outcome, p: u8, h: Header, logs: &mut [u32])
-    ensures { λ r. ⌜ ((packet : List ℕ) → h ≡ headerOf packet → now (logs .exit) ≡ logsAfter (onPaper outcome) p packet (now (logs .entry))) ⌝ }
+    ensures { λ r. ⌜ now (logs .exit) ≡ logsAfter (onPaper outcome) p h (now (logs .entry)) ⌝ }
 {
     match outcome {
         Outcome::Crossed(_) => {}
-        Outcome::Answered(refusal, _) => log(refusal.log_bit(), p, h, logs),
-        Outcome::Dropped(refusal) => log(refusal.log_bit(), p, h, logs),
+        Outcome::Answered(refusal, _) => log(log_bit(refusal), p, h, logs),
+        Outcome::Dropped(refusal) => log(log_bit(refusal), p, h, logs),
     }
 }

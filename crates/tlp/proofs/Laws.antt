@@ -1,6 +1,3 @@
--- Laws of the packet's definitions: what the functions' proofs share, and what the layers above cite.
-pub mod Count
-pub mod Write
+-- Laws of form: what is read, what crossing keeps, and the first rule broken.
 pub mod Form
-pub mod Flush
-pub mod Answer
+pub mod Rules

@@ -4,15 +4,15 @@ use mathlib.Core.List.{List}
 use mathlib.Core.Bool.{Bool, not, _&&_, _||_}
 use lib.ListN.{length}
 use lib.Dec.{eqb, ltb}
-use Rattle.header.specs.Pick.{pick}
-use Rattle.header.specs.Kind.{isRead, isCompletion, isCarried, hasFourWords}
+use Rattle.ground.specs.Pick.{pick}
+use Rattle.header.specs.Kind.{isCompletion, isCarried, hasFourWords}
 use Rattle.header.specs.Words.{headerOf}
 use Rattle.header.specs.Fields.{kind, hasDigest, addressType, dwords, totalBytes, lastEnables, firstEnables, address, highWord}
 use Rattle.header.specs.declared.words.Header.{Header}
 use Rattle.tlp.specs.declared.form.Rule.{Rule}
 use Rattle.tlp.specs.declared.form.Rule.the-variants.{TooShort, NotCarried, WrongLength, Enables, Contiguity, PageCrossing, ZeroHighWord}
 use Rattle.tlp.specs.declared.form.Packet.{Packet}
-use Rattle.tlp.specs.declared.form.Packet.the-variants.{Read, Write, Completion, Broken}
+use Rattle.tlp.specs.declared.form.Packet.the-variants.{Request, Completion, Broken}
 
 -- "fewer than 12 bytes"
 abbrev pub tooShort : ℕ → Bool
@@ -61,10 +61,6 @@ crossesPage h = ltb page (address h % page + 4 * dwords h)
 abbrev pub zeroHighWord : Header → Bool
 zeroHighWord h = hasFourWords (kind h) && eqb (highWord h) 0
 
--- a request that breaks no rule, by its kind
-abbrev pub requestOf : Header → Packet
-requestOf h = pick (isRead (kind h)) (Read h) (Write h)
-
 -- "Request form": the request, or the first rule broken
 unfoldable pub requestForm : Header → Packet
 requestForm h =
@@ -72,7 +68,7 @@ requestForm h =
     (pick (contiguityBroken h) (Broken Contiguity)
     (pick (crossesPage h) (Broken PageCrossing)
     (pick (zeroHighWord h) (Broken ZeroHighWord)
-    (requestOf h))))
+    (Request h))))
 
 -- a packet of n bytes with these header words
 unfoldable pub formOf : ℕ → Header → Packet
@@ -99,7 +95,6 @@ ruleNumber ZeroHighWord = 36
 
 -- the refusal number of what was read; 0, which is no refusal, of a packet that breaks no rule
 abbrev pub packetNumber : Packet → ℕ
-packetNumber (Read h) = 0
-packetNumber (Write h) = 0
+packetNumber (Request h) = 0
 packetNumber (Completion h) = 0
 packetNumber (Broken r) = ruleNumber r

@@ -1,4 +1,3 @@
--- What packets mean, over header words: paper 01's "Request form" and "Byte count", and writing.
+-- What packets mean, over header words: paper 01's "Request form", and the rules of form.
 pub mod Form
-pub mod Count
-pub mod Write
+pub mod Rules

@@ -29,17 +29,16 @@ pub enum Rule {
     ZeroHighWord,
 }
 
-// What reading finds: a packet by its kind, with its header words, or the first rule broken.
+// What reading finds: a request (a read or a write) or a completion, with its header words, or the first rule broken.
 pub enum Packet {
-    Read(Header),
-    Write(Header),
+    Request(Header),
     Completion(Header),
     Broken(Rule),
 }
 
 impl Rule {
     // The paper's refusal number.
-    pub fn number(self) -> u8
+    pub fn number(self) -> u32
         ensures { λ r. ⌜ r ≡ ruleNumber self ⌝ }
     {
         match self {
@@ -140,11 +139,7 @@ fn request_form(h: Header) -> Packet
     if zero_high_word(h) {
         return Packet::Broken(Rule::ZeroHighWord);
     }
-    if h.is_read() {
-        Packet::Read(h)
-    } else {
-        Packet::Write(h)
-    }
+    Packet::Request(h)
 }
 
 // A packet of `n` bytes with these header words.
@@ -169,12 +164,11 @@ pub fn form(n: usize, h: Header) -> Packet
 
 impl Packet {
     // The paper's refusal number; 0, which is none, of a packet that breaks no rule.
-    pub fn refusal(self) -> u8
+    pub fn refusal(self) -> u32
         ensures { λ r. ⌜ r ≡ packetNumber self ⌝ }
     {
         match self {
-            Packet::Read(_) => 0,
-            Packet::Write(_) => 0,
+            Packet::Request(_) => 0,
             Packet::Completion(_) => 0,
             Packet::Broken(rule) => rule.number(),
         }

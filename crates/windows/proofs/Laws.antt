@@ -1,7 +1,4 @@
--- Laws of the table of windows.
-pub mod Aligned
-pub mod Row
-pub mod Look
+-- Laws of the calls that edit the windows.
 pub mod Overlap
 pub mod Edit
 pub mod Frame

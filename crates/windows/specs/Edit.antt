@@ -4,20 +4,20 @@ use mathlib.Core.Bool.{Bool, not, _&&_, _||_}
 use mathlib.Core.List.{List}
 use lib.ListN.{length, set}
 use lib.Dec.{eqb, ltb}
-use Rattle.header.specs.Pick.{pick}
-use Rattle.header.specs.Field.{place}
-use Rattle.tables.specs.Scan.{first}
-use Rattle.tables.specs.Answer.{wrongTable, edited}
-use Rattle.windows.specs.Row.{tableLength, slots, rowAt, rowOf, exponent, isSized, aligned, inForce, spans}
-use Rattle.windows.specs.declared.row.Window.{Window}
+use Rattle.ground.specs.Pick.{pick}
+use Rattle.ground.specs.Field.{place}
+use Rattle.ground.specs.Scan.{first}
+use Rattle.ground.specs.Table.{wrongTable, edited}
+use Rattle.rows.specs.Row.{tableLength, slots, rowAt, rowOf, exponent, isFit, inForce, spans}
+use Rattle.rows.specs.declared.Window.{Window}
 
 -- refusal 1: "partition above 15, slot too large, a table of another length"
 abbrev pub wrongWindow : ℕ → ℕ → ℕ → Bool
 wrongWindow p slot have = wrongTable p have tableLength || ltb 15 slot
 
 -- refusal 10: "k outside 12..39, unaligned, destination above 15 or own"
-unfoldable pub wrongValues : ℕ → ℕ → ℕ → ℕ → ℕ → Bool
-wrongValues p base target k q = not (isSized k) || (not (aligned base k && aligned target k) || ltb 15 q || eqb q p)
+abbrev pub wrongValues : ℕ → ℕ → ℕ → ℕ → ℕ → Bool
+wrongValues p base target k q = not (isFit base target k) || ltb 15 q || eqb q p
 
 -- two spans overlap: one begins inside the other
 abbrev pub overlap : ℕ → ℕ → ℕ → ℕ → Bool

@@ -1,4 +1,2 @@
--- What the table of windows means.
-pub mod Row
-pub mod Look
+-- The calls that edit the table of windows.
 pub mod Edit

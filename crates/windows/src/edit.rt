@@ -1,9 +1,6 @@
 // "The table calls": set a window, empty it. Each checks everything first and touches the table last.
 ghost use mathlib.Core.Path.{_≡_};
-ghost use Prim.Native.Nat.{_+_, _%_, _^_, _≤_, _<_};
-ghost use lib.ListN.{length};
-ghost use Rattle.tables.specs.Answer.{answerNumber};
-ghost use Rattle.windows.specs.Row.{rowAt};
+ghost use Prim.Native.Nat.{_%_, _^_, _≤_, _<_};
 ghost use Rattle.windows.specs.Edit.{
   wrongWindow,
   wrongValues,
@@ -19,26 +16,28 @@ ghost use Rattle.windows.specs.Edit.{
   emptyWindowNumber,
   emptyWindowAfter,
 };
-use crate::row::Window;
-use crate::row::aligned;
-use crate::row::is_sized;
-use tables::Answer;
+use ground::table;
+use ground::table::DONE;
+use ground::table::WRONG_CALL;
+use rows::Window;
+
+// The refusals of these calls besides 1, by their numbers.
+pub const WINDOW_VALUES: u32 = 10;
+
+pub const OVERLAP: u32 = 11;
 
 // Refusal 1: no such partition or slot, or a table of another length.
 fn wrong_window(p: u32, slot: u32, have: usize) -> bool
     ensures { λ r. ⌜ r ≡ wrongWindow p slot have ⌝ }
 {
-    tables::wrong_table(p, have, Window::LENGTH) | (15 < slot)
+    table::wrong_table(p, have, Window::LENGTH) | (15 < slot)
 }
 
 // Refusal 10: "k outside 12..39, unaligned, destination above 15 or own".
 fn wrong_values(p: u32, base: u64, target: u64, k: u32, q: u32) -> bool
     ensures { λ r. ⌜ r ≡ wrongValues p base target k q ⌝ }
 {
-    if is_sized(k) {
-        return !(aligned(base, k) & aligned(target, k)) | (15 < q) | (q == p);
-    }
-    true
+    !rows::is_fit(base, target, k) | (15 < q) | (q == p)
 }
 
 // Two spans overlap: one begins inside the other. Aligned spans never overlap in part: one lies in the other, or they do not
@@ -107,13 +106,12 @@ fn control_word(k: u32, q: u32, marked: bool) -> u32
 
 // Writes a row.
 fn put_row(windows: &mut [u64], p: u8, s: u8, w: Window)
-    requires { ⌜ rowAt p s + 3 ≤ length (now windows) ⌝ }
     ensures { λ r. ⌜ now (windows .exit) ≡ withRow p s (w .base) (w .target) (w .control) (now (windows .entry)) ⌝ }
 {
     let at = Window::WIDTH * (16 * (p as usize) + (s as usize));
-    windows[at] = w.base;
-    windows[at + 1] = w.target;
-    windows[at + 2] = w.control;
+    table::put_64(windows, at, w.base);
+    table::put_64(windows, at + 1, w.target);
+    table::put_64(windows, at + 2, w.control);
 }
 
 // Sets a window, which is then enabled; marked packets may pass by it, or not.
@@ -126,18 +124,18 @@ pub fn set_window(
     q: u32,
     marked: bool,
     windows: &mut [u64],
-) -> Answer
-    ensures { λ r. ⌜ answerNumber r ≡ setWindowNumber p slot base target k q (now (windows .entry)) ⌝ }
+) -> u32
+    ensures { λ r. ⌜ r ≡ setWindowNumber p slot base target k q (now (windows .entry)) ⌝ }
     ensures { λ r. ⌜ now (windows .exit) ≡ setWindowAfter p slot base target k q marked (now (windows .entry)) ⌝ }
 {
     if wrong_window(p, slot, windows.len()) {
-        return Answer::WrongCall;
+        return WRONG_CALL;
     }
     if wrong_values(p, base, target, k, q) {
-        return Answer::WindowValues;
+        return WINDOW_VALUES;
     }
     if overlaps(windows, p as u8, slot as u8, base, k) {
-        return Answer::Overlap;
+        return OVERLAP;
     }
     let control = control_word(k, q, marked) as u64;
     put_row(
@@ -150,16 +148,16 @@ pub fn set_window(
             control,
         },
     );
-    Answer::Done
+    DONE
 }
 
 // Empties a window: three zeros.
-pub fn empty_window(p: u32, slot: u32, windows: &mut [u64]) -> Answer
-    ensures { λ r. ⌜ answerNumber r ≡ emptyWindowNumber p slot (now (windows .entry)) ⌝ }
+pub fn empty_window(p: u32, slot: u32, windows: &mut [u64]) -> u32
+    ensures { λ r. ⌜ r ≡ emptyWindowNumber p slot (now (windows .entry)) ⌝ }
     ensures { λ r. ⌜ now (windows .exit) ≡ emptyWindowAfter p slot (now (windows .entry)) ⌝ }
 {
     if wrong_window(p, slot, windows.len()) {
-        return Answer::WrongCall;
+        return WRONG_CALL;
     }
     put_row(
         windows,
@@ -171,5 +169,5 @@ pub fn empty_window(p: u32, slot: u32, windows: &mut [u64]) -> Answer
             control: 0,
         },
     );
-    Answer::Done
+    DONE
 }

@@ -1,4 +1,4 @@
-/* What Linux's <sys/mman.h> has on x86-64 and the tests use, for a compiler without the headers of a C library. */
+/* What Linux's <sys/mman.h> has on x86-64 and tools/replay.c uses, for a compiler without the headers of a C library. */
 #ifndef SIPHON_MMAN_H
 #define SIPHON_MMAN_H
 #include <stddef.h>

@@ -1,28 +1,24 @@
--- The bytes of a returned completion: those that it was read from, with another completer and another requester.
--- A word that is read from four bytes has them, and one whose ID is replaced has the ID's two bytes and then its own last two; a
--- completion's header is three such words. Assumes nothing.
+-- The bytes of a returned completion: those that it was read from, with another completer and another requester. A word that is read from four
+-- bytes has them, and one whose ID is replaced has the ID's two bytes and then its own last two; a completion's header is three such words.
+-- Assumes nothing.
 use Prim.Native.Nat.{ℕ, zero, suc, _+_, _/_, _%_, _^_, _≤_, _<_}
 use mathlib.Core.Path.{_≡_, refl, sym, ap, _∙_}
-use mathlib.Core.Bool.{Bool, true, false}
+use mathlib.Core.Bool.{true, false}
 use mathlib.Core.List.{List, [], _∷_, _++_}
-use mathlib.Core.Logic.{⊎-elim}
 use native.Mathlib.Omega.{arith}
-use borrow.Author.Tests.{eqb-true}
-use lib.Dec.{eqb}
 use lib.ListN.{length, take, drop}
 use lib.Seq.{drop-cons}
-use Rattle.header.specs.Field.{field, withField}
-use Rattle.header.specs.Kind.{completion, completionWithData, isCompletion, hasFourWords}
+use Rattle.ground.specs.Field.{field, withField}
+use Rattle.header.specs.Kind.{isCompletion, hasFourWords}
 use Rattle.header.specs.Words.{byteAt, joined, wordAt, headerOf, wordBytes}
-use Rattle.header.specs.Fields.{kind}
+use Rattle.header.specs.Fields.{kind, dataOf}
 use Rattle.header.specs.Rewrite.{returned}
-use Rattle.header.proofs.Laws.Field.{field-same, field-below, field-of-field}
-use Rattle.header.proofs.Laws.Join.{one-of}
-use Rattle.header.proofs.Laws.Pick.{pass}
+use Rattle.ground.proofs.Laws.Field.{field-same, field-below, field-of-field}
+use Rattle.ground.proofs.Laws.Pick.{pass}
 use Rattle.header.proofs.Laws.Words.{Bytes}
-use Rattle.tlp.specs.Write.{threeWords, packetList}
-use Rattle.tlp.proofs.Laws.Write.{without-fourth}
-use Rattle.switch.specs.After.{dataOf}
+use Rattle.wire.specs.Write.{threeWords, packetList}
+use Rattle.tlp.proofs.Laws.Rules.{of-completions}
+use Rattle.wire.proofs.Laws.Write.{without-fourth}
 use Rattle.demands.specs.Demand3.{idBytes, returnedBytes}
 
 -- four bytes, each by itself
@@ -37,17 +33,12 @@ named-bytes w id b =
     λ i h. sym (field-of-field i 8 16 16 v h) ∙ ap (field i 8) (field-same 16 16 w id b) in
     let high : field 8 8 id ≡ id / 256 = omega arith in
     let low : field 0 8 id ≡ id % 256 = omega arith in
-    four _ _ _ _ _ _ _ _ (upper 8 (omega arith) ∙ high) (upper 0 (omega arith) ∙ low) (field-below 8 8 16 16 w id b (omega arith)) (field-below 0 8 16 16 w id b (omega arith))
+    let kept : (i : ℕ) → 8 + i ≤ 16 → field i 8 v ≡ field i 8 w = λ i h. field-below i 8 16 16 w id b h in
+    four _ _ _ _ _ _ _ _ (upper 8 (omega arith) ∙ high) (upper 0 (omega arith) ∙ low) (kept 8 (omega arith)) (kept 0 (omega arith))
 
 -- the bytes of a word that is made of bytes
 joined-bytes : (a b c d : ℕ) → a < 2 ^ 8 → b < 2 ^ 8 → c < 2 ^ 8 → d < 2 ^ 8 → wordBytes (joined a b c d) ≡ a ∷ b ∷ c ∷ d ∷ []
 joined-bytes a b c d p q r s = four _ _ _ _ a b c d (omega arith) (omega arith) (omega arith) (omega arith)
-
--- what a test says of the two kinds of completion it says of a completion's kind
-pub of-completions : (test : ℕ → Bool) (v : Bool) → test completion ≡ v → test completionWithData ≡ v → (k : ℕ) → isCompletion k ≡ true → test k ≡ v
-of-completions test v p q k e =
-    ⊎-elim (λ r. ap test (eqb-true k completion r) ∙ p) (λ r. ap test (eqb-true k completionWithData r) ∙ q)
-    (one-of (eqb k completion) (eqb k completionWithData) e)
 
 -- n bytes of a list, one by one from a place on, and what follows them
 abbrev spelt : List ℕ → ℕ → ℕ → List ℕ

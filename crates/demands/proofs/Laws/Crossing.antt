@@ -1,184 +1,109 @@
--- What a packet that crosses was: the call, the sender, the window, the entry and the record that went out, one record of facts for
--- requests and one for completions. A refusal is no crossing, so every test of the rule was passed over. Assumes nothing.
-use Prim.Native.Nat.{ℕ, _*_, _+_, _/_, _%_, _<_}
-use mathlib.Core.Path.{_≡_, refl, sym, ap, _∙_, subst}
-use mathlib.Core.Bool.{Bool, true, false, not}
-use mathlib.Core.Logic.{_⊎_, ⊎-elim}
-use mathlib.Core.List.{List}
-use borrow.Author.Tests.{eqb-true, not-false}
-use lib.Dec.{eqb}
+-- What a packet that crosses was: a request that went over by a window and an entry, or a completion that came back to the owner of one;
+-- with what holds at its way. A refusal is no crossing, and the rest is the rule's one walk. Assumes nothing.
+use Prim.Native.Nat.{ℕ, _*_, _+_, _/_, _%_, _≤_, _<_}
+use mathlib.Core.Path.{_≡_, refl, sym, _∙_}
+use mathlib.Core.Bool.{true, false, _&&_}
+use mathlib.Core.Logic.{_⊎_, inl, inr}
+use native.Mathlib.Omega.{arith}
 use lib.ListN.{length}
-use Rattle.header.specs.Pick.{pick}
-use Rattle.header.specs.Words.{headerOf}
-use Rattle.header.specs.Fields.{requesterId, address, completionRequesterId}
+use Rattle.ground.proofs.Laws.Pick.{either}
+use Rattle.header.specs.Kind.{isRead}
+use Rattle.header.specs.Fields.{kind, requesterId}
 use Rattle.header.specs.Rewrite.{readdressed, renamed, returned}
-use Rattle.header.specs.declared.words.Header.{Header}
-use Rattle.header.proofs.Laws.Pick.{either}
-use Rattle.tlp.specs.Form.{packetOf}
-use Rattle.tlp.specs.declared.form.Packet.{Packet}
-use Rattle.tlp.specs.declared.form.Packet.the-variants.{Read, Write, Completion}
-use Rattle.windows.specs.Look.{lookUp, reaches}
-use Rattle.windows.specs.declared.look.Translation.{Translation}
-use Rattle.windows.specs.declared.look.Look.{Look}
-use Rattle.windows.specs.declared.look.Look.the-variants.{Shut, Open}
-use Rattle.numbers.specs.Entries.{entryOf, entryAt}
+use Rattle.look.specs.declared.Translation.{Translation}
+use Rattle.numbers.specs.Entries.{entryAt}
 use Rattle.numbers.specs.Buses.{busOf, isActive}
-use Rattle.numbers.specs.declared.entries.Entry.{Entry}
-use Rattle.numbers.specs.declared.entries.Entry.the-variants.{Free, Held}
-use Rattle.numbers.specs.declared.entries.Found.{Found}
-use Rattle.numbers.specs.declared.entries.Found.the-variants.{Nothing, At}
+use Rattle.numbers.specs.declared.entries.Entry.the-variants.{Held}
 use Rattle.numbers.proofs.Laws.Entries.{found-holds}
+use Rattle.routing.specs.declared.refusal.Refusal.{Refusal}
 use Rattle.switch.specs.declared.answer.Sent.{Sent}
-use Rattle.switch.specs.Answer.{Answer, crossed, answered, dropped, sentOf}
-use Rattle.switch.specs.Rule.{wrongCall, busId, mappedId, refused, toDestination, throughEntry, isStopped, throughMark, throughWindow, requestRule, isPassable, toOwner, throughHeld, completionRule, packetRule, passRule}
-use Rattle.switch.proofs.Laws.Call.{RightCall, right-call}
+use Rattle.routing.specs.declared.rule.Way.{Way}
+use Rattle.routing.specs.declared.rule.Way.the-variants.{Stop, Goes, Comes}
+use Rattle.routing.specs.Call.{Call, headOf, asked}
+use Rattle.routing.specs.Rule.{busId, mappedId, passWay}
+use Rattle.routing.specs.Why.{Entered, Named, Passable, Holds}
+use Rattle.switch.specs.Answer.{Answer, crossed, refused, sentOf, wayAnswer}
+use Rattle.routing.specs.Refusal.{answersReads}
+use Rattle.switch.specs.After.{answerOf}
+use Rattle.routing.proofs.Laws.Call.{Right, right-call}
+use Rattle.routing.proofs.Laws.Exactly.{exactly}
 
--- the bytes are a request that breaks no rule
-abbrev pub IsRequest : List ℕ → Type 0
-IsRequest s = (packetOf s ≡ Read (headerOf s)) ⊎ (packetOf s ≡ Write (headerOf s))
+-- the request that a way takes over, and the record that it comes out with
+abbrev pub goneOver : Call → Translation → ℕ → Sent
+goneOver c t i =
+    sentOf (renamed (readdressed (headOf c) (t .address)) (mappedId (busOf (c .tables .numbers) (t .destination)) i)) (t .destination)
 
--- the bytes are a completion that breaks no rule
-abbrev pub IsCompletion : List ℕ → Type 0
-IsCompletion s = packetOf s ≡ Completion (headerOf s)
+-- and the completion that one brings back
+abbrev pub comeBack : Call → ℕ → ℕ → Sent
+comeBack c id i = sentOf (returned (headOf c) id (busId (busOf (c .tables .numbers) (i / 4)))) (i / 4)
 
--- the answer is a crossing
-abbrev IsCrossing : Answer → Type 0
-IsCrossing (crossed x) = Unit {0}
-IsCrossing (answered n x) = ⊥
-IsCrossing (dropped n) = ⊥
+-- a request went over
+pub record Went (c : Call) (x : Sent) : Type 0 where
+  pub way : Translation
+  pub index : ℕ
+  pub named : Named (asked c) way index
+  pub reached : isActive (c .tables .numbers) (way .destination) ≡ true
+  pub sent : x ≡ goneOver c way index
 
--- a test whose answer is no crossing was passed over
-passed : (t : Bool) (y z : Answer) (x : Sent) → (IsCrossing y → ⊥) → pick t y z ≡ crossed x → (t ≡ false) × (z ≡ crossed x)
-unfolding pick
-passed true y z x f e = absurd (f (subst IsCrossing (sym e) tt))
-passed false y z x f e = (refl, e)
+-- a completion came back
+pub record Came (c : Call) (x : Sent) : Type 0 where
+  pub id : ℕ
+  pub index : ℕ
+  pub holds : Holds (asked c) (Comes id index)
+  pub sent : x ≡ comeBack c id index
 
--- a refused request does not cross
-no-crossing : (reading : Bool) (n p bus : ℕ) (h : Header) → IsCrossing (refused reading n p bus h) → ⊥
+-- a refusal is no crossing
+refused-not : (r : Refusal) (p bus : ℕ) (c : Call) (x : Sent) → refused r p bus (headOf c) ≡ crossed x → ⊥
 unfolding refused
-no-crossing reading n p bus h = either (λ (a : Answer). IsCrossing a → ⊥) reading (λ _ z. z) (λ _ z. z)
+refused-not r p bus c x =
+    either (λ (a : Answer). a ≡ crossed x → ⊥) (answersReads r && isRead (kind (headOf c)))
+    (λ _ e. let z : _≡_ {A = ℕ} 0 1 = cc in omega arith)
+    (λ _ e. let z : _≡_ {A = ℕ} 0 1 = cc in omega arith)
 
 -- one record crosses
 one-record : (x y : Sent) → crossed x ≡ crossed y → y ≡ x
 one-record x y e = cc
 
--- the tests before the packet: the call and the sender
-pub before-packet : (p : ℕ) (s windows numbers : List ℕ) (logs out : ℕ) (x : Sent) → passRule p s windows numbers logs out ≡ crossed x
-    → RightCall p (length windows) (length numbers) logs out × (isActive numbers p ≡ true) × (packetRule (packetOf s) p (busOf numbers p) windows numbers ≡ crossed x)
-unfolding passRule
-before-packet p s windows numbers logs out x e =
-    let a = passed (wrongCall p (length windows) (length numbers) logs out) _ _ x (λ z. z) e in
-    let b = passed (not (isActive numbers p)) _ _ x (λ z. z) (a .1) in
-    (right-call p (length windows) (length numbers) logs out (a .0), not-false (isActive numbers p) (b .0), b .1)
+-- what crosses went over or came back
+pub crossed-way : (c : Call) (x : Sent) → answerOf c ≡ crossed x → Went c x ⊎ Came c x
+crossed-way c x e = by-way (passWay (asked c)) refl e
+  where
+    by-way : (y : Way) → passWay (asked c) ≡ y → wayAnswer y (c .sender) (headOf c) (c .tables .numbers) ≡ crossed x → Went c x ⊎ Came c x
+    by-way (Stop r) w a = absurd (refused-not r (c .sender) (busOf (c .tables .numbers) (c .sender)) c x a)
+    by-way (Goes t i) w a =
+        let h = exactly (asked c) (Goes t i) .0 w in
+        inl (record { way = t; index = i; named = h .0; reached = h .1; sent = one-record (goneOver c t i) x a })
+    by-way (Comes id i) w a = inr (record { id = id; index = i; holds = exactly (asked c) (Comes id i) .0 w; sent = one-record (comeBack c id i) x a })
 
--- what a request with these header words passed through: the window, the entry, the destination
-pub record Through (p : ℕ) (h : Header) (windows numbers : List ℕ) (x : Sent) : Type 0 where
-  pub translation : Translation
-  pub looked : lookUp windows p (address h) ≡ Open translation
-  pub admitted : isStopped h (translation .marked) ≡ false
-  pub index : ℕ
-  pub found : entryOf numbers p (requesterId h) ≡ At index
+-- what an entered call was given
+pub right : (c : Call) → Entered (asked c) → Right (c .sender) (c .tables) (length (c .logs)) (length (c .out))
+right c e = right-call (c .sender) (c .tables) (length (c .logs)) (length (c .out)) (e .right)
+
+-- both are of entered calls
+pub went-entered : (c : Call) (x : Sent) → Went c x → Entered (asked c)
+went-entered c x w = w .named .admitted .opened .requests .entered
+
+pub came-entered : (c : Call) (x : Sent) → Came c x → Entered (asked c)
+came-entered c x w = w .holds .0 .owned .is-held .mapped .returns .entered
+
+pub crossed-entered : (c : Call) (x : Sent) → Went c x ⊎ Came c x → Entered (asked c)
+crossed-entered c x (inl w) = went-entered c x w
+crossed-entered c x (inr w) = came-entered c x w
+
+-- the entry of a request that went over: a slot of the sender's that holds the requester
+pub record Filled (c : Call) (i : ℕ) : Type 0 where
   pub slot : ℕ
   pub slot-lt : slot < 4
-  pub index-is : index ≡ 4 * p + slot
-  pub held : entryAt numbers index ≡ Held (requesterId h)
-  pub reached : isActive numbers (translation .destination) ≡ true
-  pub sent : x ≡ sentOf (renamed (readdressed h (translation .address)) (mappedId (busOf numbers (translation .destination)) index)) (translation .destination)
+  pub index-is : i ≡ 4 * c .sender + slot
+  pub index-lt : i < 64
+  pub held : entryAt (c .tables .numbers) i ≡ Held (requesterId (headOf c))
 
--- reads and writes alike
-pub request-through : (reading : Bool) (p bus : ℕ) (h : Header) (windows numbers : List ℕ) (x : Sent) → requestRule reading p bus h windows numbers ≡ crossed x
-    → Through p h windows numbers x
-unfolding requestRule throughMark toDestination
-request-through reading p bus h windows numbers x e = by-look (lookUp windows p (address h)) refl e
-  where
-    by-found : (t : Translation) → lookUp windows p (address h) ≡ Open t → isStopped h (t .marked) ≡ false → (f : Found) → entryOf numbers p (requesterId h) ≡ f
-        → throughEntry f reading p bus h t numbers ≡ crossed x → Through p h windows numbers x
-    by-found t l w Nothing f e = absurd (no-crossing reading 7 p bus h (subst IsCrossing (sym e) tt))
-    by-found t l w (At i) f e =
-        let d = passed (not (isActive numbers (t .destination))) _ _ x (no-crossing reading 8 p bus h) e in
-        let g = found-holds numbers p (requesterId h) i f in
-        record {
-          translation = t;
-          looked = l;
-          admitted = w;
-          index = i;
-          found = f;
-          slot = g .0;
-          slot-lt = g .1;
-          index-is = g .2;
-          held = g .3;
-          reached = not-false (isActive numbers (t .destination)) (d .0);
-          sent = one-record _ x (d .1);
-        }
+pub went-filled : (c : Call) (x : Sent) (w : Went c x) → Filled c (w .index)
+went-filled c x w =
+    let f = found-holds (c .tables .numbers) (c .sender) (requesterId (headOf c)) (w .index) (w .named .entry) in
+    let p = right c (went-entered c x w) .partition in
+    record { slot = f .0; slot-lt = f .1; index-is = f .2; index-lt = omega (arith, f .1, f .2, p); held = f .3 }
 
-    by-look : (l : Look) → lookUp windows p (address h) ≡ l → throughWindow l reading p bus h numbers ≡ crossed x → Through p h windows numbers x
-    by-look Shut l e = absurd (no-crossing reading 6 p bus h (subst IsCrossing (sym e) tt))
-    by-look (Open t) l e =
-        let a = passed (isStopped h (t .marked)) _ _ x (no-crossing reading 5 p bus h) e in
-        by-found t l (a .0) (entryOf numbers p (requesterId h)) refl (a .1)
-
--- a request that crossed
-pub record RequestCrossed (p : ℕ) (s windows numbers : List ℕ) (logs out : ℕ) (x : Sent) : Type 0 where
-  pub call : RightCall p (length windows) (length numbers) logs out
-  pub active : isActive numbers p ≡ true
-  pub through : Through p (headerOf s) windows numbers x
-
--- a request that crosses has passed every test
-pub request-crossed : (p : ℕ) (s windows numbers : List ℕ) (logs out : ℕ) (x : Sent) → IsRequest s → passRule p s windows numbers logs out ≡ crossed x
-    → RequestCrossed p s windows numbers logs out x
-request-crossed p s windows numbers logs out x r e =
-    let b = before-packet p s windows numbers logs out x e in
-    let rule : Packet → Answer = λ k. packetRule k p (busOf numbers p) windows numbers in
-    record {
-      call = b .0;
-      active = b .1;
-      through =
-          ⊎-elim
-          (λ q. request-through true p (busOf numbers p) (headerOf s) windows numbers x (ap rule (sym q) ∙ b .2))
-          (λ q. request-through false p (busOf numbers p) (headerOf s) windows numbers x (ap rule (sym q) ∙ b .2))
-          r;
-    }
-
--- a completion that crossed
-pub record CompletionCrossed (p : ℕ) (s windows numbers : List ℕ) (logs out : ℕ) (x : Sent) : Type 0 where
-  pub call : RightCall p (length windows) (length numbers) logs out
-  pub active : isActive numbers p ≡ true
-  pub number : completionRequesterId (headerOf s) ≡ mappedId (busOf numbers p) (completionRequesterId (headerOf s) % 64)
-  pub id : ℕ
-  pub held : entryAt numbers (completionRequesterId (headerOf s) % 64) ≡ Held id
-  pub passable : isPassable (completionRequesterId (headerOf s) % 64 / 4) p windows numbers ≡ true
-  pub admitted : isStopped (headerOf s) (reaches windows (completionRequesterId (headerOf s) % 64 / 4) p true) ≡ false
-  pub sent : x ≡ sentOf (returned (headerOf s) id (busId (busOf numbers (completionRequesterId (headerOf s) % 64 / 4)))) (completionRequesterId (headerOf s) % 64 / 4)
-
--- a completion that crosses has passed every test
-pub completion-crossed : (p : ℕ) (s windows numbers : List ℕ) (logs out : ℕ) (x : Sent) → IsCompletion s → passRule p s windows numbers logs out ≡ crossed x
-    → CompletionCrossed p s windows numbers logs out x
-unfolding completionRule toOwner
-completion-crossed p s windows numbers logs out x r e =
-    let b = before-packet p s windows numbers logs out x e in
-    let rule : Packet → Answer = λ k. packetRule k p (busOf numbers p) windows numbers in
-    let n = completionRequesterId (headerOf s) in
-    let c = passed (not (eqb n (mappedId (busOf numbers p) (n % 64)))) _ _ x (λ z. z) (ap rule (sym r) ∙ b .2) in
-    by-entry (b .0) (b .1) (eqb-true n (mappedId (busOf numbers p) (n % 64)) (not-false (eqb n (mappedId (busOf numbers p) (n % 64))) (c .0)))
-    (entryAt numbers (n % 64)) refl (c .1)
-  where
-    by-entry : RightCall p (length windows) (length numbers) logs out → isActive numbers p ≡ true
-        → completionRequesterId (headerOf s) ≡ mappedId (busOf numbers p) (completionRequesterId (headerOf s) % 64)
-        → (t : Entry) → entryAt numbers (completionRequesterId (headerOf s) % 64) ≡ t
-        → throughHeld t (completionRequesterId (headerOf s) % 64) p (headerOf s) windows numbers ≡ crossed x
-        → CompletionCrossed p s windows numbers logs out x
-    by-entry c a n Free h e = absurd (subst IsCrossing (sym e) tt)
-    by-entry c a n (Held id) h e =
-        let owner = completionRequesterId (headerOf s) % 64 / 4 in
-        let d = passed (not (isPassable owner p windows numbers)) _ _ x (λ z. z) e in
-        let m = passed (isStopped (headerOf s) (reaches windows owner p true)) _ _ x (λ z. z) (d .1) in
-        record {
-          call = c;
-          active = a;
-          number = n;
-          id = id;
-          held = h;
-          passable = not-false (isPassable owner p windows numbers) (d .0);
-          admitted = m .0;
-          sent = one-record _ x (m .1);
-        }
+-- the index of a completion that came back is below 64
+pub came-index-lt : (c : Call) (x : Sent) (w : Came c x) → w .index < 64
+came-index-lt c x w = let e = w .holds .0 .owned .is-held .mapped .index in omega (arith, e)

@@ -1,186 +1,123 @@
--- R-3: what crosses keeps its mark; where no row has the bit no marked packet crosses; and 5 is given to marked packets alone, where the
--- bit of the request's own window, or of every row on the completion's way back, is absent.
--- No rewriting moves bit 14 of word 0; what crossed was admitted by its row; and along the rule, definition by definition, 5 is given at
--- two tests, which say so. Assumes nothing.
-use Prim.Native.Nat.{ℕ, _/_, _%_, _<_}
-use mathlib.Core.Path.{_≡_, refl, sym, ap, _∙_}
-use mathlib.Core.Bool.{Bool, true, false, not, _||_, true≢false}
+-- R-3: what crosses keeps its mark; where no row has the bit no marked packet crosses; and 5 is given to marked packets alone, where the bit
+-- of the request's own window, or of every row on the completion's way back, is absent.
+-- No rewriting moves the mark; what crossed was admitted by its row; and 5 is one refusal, given exactly where a test of the mark holds. Assumes
+-- nothing.
+use Prim.Native.Nat.{ℕ, _/_, _≤_}
+use mathlib.Core.Path.{_≡_, sym, ap, _∙_, subst}
+use mathlib.Core.Bool.{Bool, true, false, not, _&&_, true≢false}
 use mathlib.Core.Logic.{_⊎_, inl, inr, ⊎-elim}
+use mathlib.Core.List.{List}
 use native.Mathlib.Omega.{arith}
-use borrow.Author.Tests.{eqb-true, not-true, not-false}
-use lib.Dec.{eqb}
-use lib.ListN.{length}
-use Rattle.header.specs.Words.{headerOf}
-use Rattle.header.specs.Fields.{isPoisoned, requesterId, address, completionRequesterId}
-use Rattle.header.specs.declared.words.Header.{Header}
-use Rattle.header.proofs.Laws.Join.{both}
-use Rattle.header.proofs.Laws.Pick.{either}
-use Rattle.tlp.specs.Form.{packetOf}
-use Rattle.tlp.specs.declared.form.Packet.{Packet}
-use Rattle.tlp.proofs.Laws.Form.{inverted-completion}
-use Rattle.windows.specs.Row.{rowOf, passesMarked}
-use Rattle.windows.specs.Look.{lookUp, lowestSlot, reaches}
-use Rattle.windows.specs.declared.row.Window.{Window}
-use Rattle.windows.specs.declared.look.Translation.{Translation}
-use Rattle.windows.specs.declared.look.Look.{Look}
-use Rattle.windows.specs.declared.look.Look.the-variants.{Shut, Open}
-use Rattle.windows.proofs.Laws.Row.{led}
-use Rattle.windows.proofs.Laws.Look.{lower-cover-not, opened, no-reach-no-row}
-use Rattle.numbers.specs.Entries.{entryOf, entryAt}
-use Rattle.numbers.specs.Buses.{busOf, isActive}
-use Rattle.numbers.specs.declared.entries.Entry.{Entry}
-use Rattle.numbers.specs.declared.entries.Entry.the-variants.{Free, Held}
-use Rattle.numbers.specs.declared.entries.Found.{Found}
-use Rattle.numbers.specs.declared.entries.Found.the-variants.{Nothing, At}
+use borrow.Author.Tests.{eqb-true, eqb-false, not-true, not-false}
+use Rattle.ground.proofs.Laws.Join.{both}
+use Rattle.header.specs.Fields.{isPoisoned, address, completionRequesterId}
+use Rattle.tlp.proofs.Laws.Form.{inverted, inverted-completion}
+use Rattle.tlp.proofs.Laws.Rules.{carried-request}
+use Rattle.rows.specs.Row.{rowOf}
+use Rattle.look.specs.Look.{CoveredBy, WayTo, NoneChosen}
+use Rattle.look.specs.declared.Translation.{Translation}
+use Rattle.rows.proofs.Laws.Row.{led}
+use Rattle.look.proofs.Laws.Look.{opened, reached-by, reaches-by}
+use Rattle.numbers.specs.Buses.{busOf}
+use Rattle.routing.specs.declared.refusal.Refusal.the-variants.{Poisoned}
 use Rattle.switch.specs.declared.answer.Sent.{Sent}
-use Rattle.switch.specs.Answer.{Answer}
-use Rattle.switch.specs.Rule.{mappedId, refused, toDestination, throughEntry, isStopped, throughMark, throughWindow, requestRule, isPassable, toOwner, throughHeld, completionRule, packetRule}
-use Rattle.demands.specs.Call.{Call}
-use Rattle.demands.specs.Marks.{isMarked, MarkKept, NoMarkCrosses, Is5, RequestStopped, CompletionStopped, FiveOnlyThere}
-use Rattle.demands.proofs.Laws.CameOut.{request-form, request-kind, crossed-sort, came-out-whole}
-use Rattle.demands.proofs.Laws.Crossing.{IsRequest, IsCompletion, before-packet, request-crossed, completion-crossed}
-use Rattle.demands.proofs.Laws.Forms.{no-rule, each-form}
-use Rattle.demands.proofs.Laws.Listed.{past-2}
+use Rattle.routing.specs.Call.{Call, reached, headOf, sizeOf, asked}
+use Rattle.routing.specs.Rule.{mappedId}
+use Rattle.routing.specs.Why.{IsMarked, going, coming, Why}
+use Rattle.switch.specs.Answer.{Answer, crossed, answered, dropped}
+use Rattle.switch.specs.After.{answerOf}
+use Rattle.switch.proofs.Laws.Paper.{number-determines}
+use Rattle.demands.specs.Marks.{MarkKept, NoMarkCrosses, Is5, RequestStopped, CompletionStopped, FiveOnlyThere}
+use Rattle.demands.proofs.Laws.CameOut.{came-out-whole}
+use Rattle.demands.proofs.Laws.Crossing.{crossed-way, crossed-entered, right}
+use Rattle.demands.proofs.Laws.Listed.{Stopped, Listed, listed}
 use Rattle.demands.proofs.Laws.Outgoing.{sent-marked}
 use Rattle.demands.proofs.Laws.Settled.{passed-by}
 
--- what crosses keeps its mark
+-- ---- what crosses
+
+-- it keeps its mark
 pub mark-kept : MarkKept
 mark-kept c x l e =
-    let s = c .packet in
     ap isPoisoned (came-out-whole c x l e .header-is)
-    ∙ ⊎-elim
-    (λ r.
-    let f = request-crossed (c .sender) s (c .windows) (c .numbers) (length (c .logs)) (length (c .out)) x r e in
-    sent-marked (c .sender) (headerOf s) (c .windows) (c .numbers) x (f .call .partition) (l .words) (f .through))
-    (λ k. ap (λ (y : Sent). isPoisoned (y .header)) (completion-crossed (c .sender) s (c .windows) (c .numbers) (length (c .logs)) (length (c .out)) x k e .sent))
-    (crossed-sort c x e)
+    ∙ ⊎-elim (sent-marked c x l) (λ w. ap (λ (y : Sent). isPoisoned (y .header)) (w .sent)) (crossed-way c x e)
 
--- a marked packet is not admitted where the bit is absent
-not-admitted : (marked bit : Bool) → marked ≡ true → bit ≡ false → (not marked || bit) ≡ true → ⊥
-not-admitted true true m b e = true≢false b
-not-admitted true false m b e = true≢false (sym e)
-not-admitted false bit m b e = true≢false (sym m)
+-- ---- where no row has the bit
 
--- where no row has the bit, no marked packet crosses
+-- no covered address has it,
+covered-unchosen : (windows : List ℕ) → NoneChosen windows → (p a : ℕ) (t : Translation) → p ≤ 15 → CoveredBy windows p a t → t .marked ≡ false
+covered-unchosen windows none p a t k o = ap (λ (u : Translation). u .marked) (o .becomes) ∙ none p (o .slot) k (o .slot-lt)
+
+-- and there is no way for marked packets
+no-marked-way : (windows : List ℕ) → NoneChosen windows → (p q : ℕ) → p ≤ 15 → WayTo windows p q true → ⊥
+no-marked-way windows none p q k w = true≢false (sym (led p q true (rowOf windows p (w .slot)) (w .leading) .2) ∙ none p (w .slot) k (w .slot-lt))
+
+-- who is marked and not stopped passes where the bit is
+passes : (marked bit : Bool) → marked ≡ true → (marked && not bit) ≡ false → bit ≡ true
+passes true bit m e = not-false bit e
+passes false bit m e = absurd (true≢false (sym m))
+
+-- so no marked packet crosses
 pub no-mark-crosses : NoMarkCrosses
 no-mark-crosses c x none marked e =
-    let right = before-packet (c .sender) (c .packet) (c .windows) (c .numbers) (length (c .logs)) (length (c .out)) x e .0 in
-    let m = isMarked (c .packet) in
-    let row : ℕ → ℕ → Window = rowOf (c .windows) in
+    let windows = c .tables .windows in
+    let p = right c (crossed-entered c x (crossed-way c x e)) .partition in
+    let m = isPoisoned (headOf c) in
     ⊎-elim
-    (λ r. not-admitted m (passesMarked (row (c .sender) (r .slot))) marked (none (c .sender) (r .slot) (right .partition) (r .slot-lt)) (r .admitted))
     (λ r.
-    let w = row (r .owner) (r .slot) in
-    not-admitted m (passesMarked w) marked (none (r .owner) (r .slot) (omega (arith, r .owner-lt)) (r .slot-lt)) (led (r .owner) (c .sender) m w (r .window) .2))
+    let bit = r .way .marked in
+    true≢false (sym (passes m bit marked (r .admitted)) ∙ covered-unchosen windows none (c .sender) (address (headOf c)) (r .way) p (r .window)))
+    (λ r. no-marked-way windows none (r .owner) (c .sender) (omega (arith, r .owner-lt)) (subst (WayTo windows (r .owner) (c .sender)) marked (r .window)))
     (passed-by c x e)
 
--- what is to be said of an answer to a call: if it is 5, why
-abbrev Why5 : Call → Answer → Type 0
-Why5 c a = Is5 a → (isMarked (c .packet) ≡ true) × (RequestStopped c ⊎ CompletionStopped c)
+-- ---- 5
 
--- a request
-module _ (c : Call) (reading : Bool) (r : IsRequest (c .packet)) where
-  abbrev head : Header
-  head = headerOf (c .packet)
+-- a marked packet that a test of the mark stopped
+stopped-marked : (c : Call) → IsMarked (asked c) → (isPoisoned (headOf c) ≡ true) × (RequestStopped c ⊎ CompletionStopped c)
+stopped-marked c (going t o e) =
+    let h = headOf c in
+    let b = both (isPoisoned h) (not (t .marked)) e in
+    let f = inverted (sizeOf c) h h (o .requests .request) .0 in (
+      b .0,
+      inl (record {
+        request = carried-request h (f .carried) (f .request);
+        way = t;
+        window = opened (c .tables .windows) (c .sender) (address h) t (o .opened);
+        absent = not-true (t .marked) (b .1);
+      }),
+    )
+stopped-marked c (coming id i p e) =
+    let h = headOf c in
+    let windows = c .tables .windows in
+    let owned = p .owned in
+    let mapped = owned .is-held .mapped in
+    let chosen : Bool → Bool = reached (c .tables) (i / 4) (c .sender) in
+    let b = both (isPoisoned h) (not (chosen (isPoisoned h))) e in
+    let none : chosen true ≡ false = ap chosen (sym (b .0)) ∙ not-true (chosen (isPoisoned h)) (b .1) in (
+      b .0,
+      inr (record {
+        completion = inverted-completion (sizeOf c) h h (mapped .returns .completion) .0 .completion;
+        index = i;
+        index-lt = omega (arith, mapped .index);
+        number = eqb-true (completionRequesterId h) (mappedId (busOf (c .tables .numbers) (c .sender)) i) (mapped .number);
+        id = id;
+        filled = owned .is-held .held;
+        another = eqb-false (i / 4) (c .sender) (owned .another);
+        active = owned .owner-active;
+        window = reached-by windows (i / 4) (c .sender) false (p .row);
+        absent = λ w. true≢false (sym (reaches-by windows (i / 4) (c .sender) true w) ∙ none);
+      }),
+    )
 
-  abbrev bus : ℕ
-  bus = busOf (c .numbers) (c .sender)
-
-  -- another number is not 5
-  another : (n : ℕ) → (n ≡ 5 → ⊥) → Why5 c (refused reading n (c .sender) bus head)
-  unfolding refused
-  another n f = either (Why5 c) reading (λ _ e. absurd (f e)) (λ _ e. absurd (f e))
-
-  -- 7 and 8
-  entry-why : (f : Found) (t : Translation) → Why5 c (throughEntry f reading (c .sender) bus head t (c .numbers))
-  unfolding toDestination
-  entry-why Nothing t = another 7 (λ e. omega arith)
-  entry-why (At i) t = either (Why5 c) (not (isActive (c .numbers) (t .destination))) (λ _. another 8 (λ e. omega arith)) (λ _ z. absurd z)
-
-  -- 5, where the window that the look found has not the bit
-  mark-why : (t : Translation) → lookUp (c .windows) (c .sender) (address head) ≡ Open t → Why5 c (throughMark reading (c .sender) bus head t (c .numbers))
-  unfolding throughMark
-  mark-why t l =
-      let o = opened (c .windows) (c .sender) (address head) t l in
-      either (Why5 c) (isStopped head (t .marked))
-      (λ e _.
-      let b = both (isPoisoned head) (not (t .marked)) e in (
-        b .0,
-        inl (record {
-          request = request-kind (length (c .packet)) head (request-form (c .packet) r);
-          slot = lowestSlot (c .windows) (c .sender) (address head);
-          slot-lt = o .0;
-          window = o .1;
-          lowest = lower-cover-not (c .windows) (c .sender) (address head);
-          absent = ap (λ (u : Translation). u .marked) (sym (o .2)) ∙ not-true (t .marked) (b .1);
-        }),
-      ))
-      (λ _. entry-why (entryOf (c .numbers) (c .sender) (requesterId head)) t)
-
-  -- 6
-  window-why : (l : Look) → lookUp (c .windows) (c .sender) (address head) ≡ l → Why5 c (throughWindow l reading (c .sender) bus head (c .numbers))
-  window-why Shut l = another 6 (λ e. omega arith)
-  window-why (Open t) l = mark-why t l
-
-  -- all of them
-  request-why : Why5 c (requestRule reading (c .sender) bus head (c .windows) (c .numbers))
-  unfolding requestRule
-  request-why = window-why (lookUp (c .windows) (c .sender) (address head)) refl
-
--- a completion, under the number of its sender's bus and the index i
-module _ (c : Call) (k : IsCompletion (c .packet)) (i : ℕ) (l : i < 64) (n : completionRequesterId (headerOf (c .packet)) ≡ mappedId (busOf (c .numbers) (c .sender)) i) where
-  -- 9 and 5, of the owner
-  owner-why : (id : ℕ) → entryAt (c .numbers) i ≡ Held id → Why5 c (toOwner id (i / 4) (c .sender) (headerOf (c .packet)) (c .windows) (c .numbers))
-  unfolding toOwner
-  owner-why id f =
-      let h = headerOf (c .packet) in
-      let owner = i / 4 in
-      let chosen = reaches (c .windows) owner (c .sender) true in
-      let ok = isPassable owner (c .sender) (c .windows) (c .numbers) in
-      either (Why5 c) (not ok) (λ _ e. absurd (omega (arith, e)))
-      (λ p. either (Why5 c) (isStopped h chosen)
-      (λ e _.
-      let b = both (isPoisoned h) (not chosen) e in (
-        b .0,
-        inr (record {
-          completion = inverted-completion (length (c .packet)) h h k .0 .completion;
-          index = i;
-          index-lt = l;
-          number = n;
-          id = id;
-          filled = f;
-          owner = owner;
-          named = refl;
-          passable = not-false ok p;
-          absent = no-reach-no-row (c .windows) owner (c .sender) true (not-true chosen (b .1));
-        }),
-      ))
-      (λ _ z. absurd z))
-
-  -- 9, of the entry
-  held-why : (e : Entry) → entryAt (c .numbers) i ≡ e → Why5 c (throughHeld e i (c .sender) (headerOf (c .packet)) (c .windows) (c .numbers))
-  held-why Free f = λ e. absurd (omega (arith, e))
-  held-why (Held id) f = owner-why id f
-
--- 9, of the number, and all of them
-completion-why : (c : Call) → IsCompletion (c .packet) → Why5 c (completionRule (c .sender) (busOf (c .numbers) (c .sender)) (headerOf (c .packet)) (c .windows) (c .numbers))
-unfolding completionRule
-completion-why c k =
-    let n = completionRequesterId (headerOf (c .packet)) in
-    let own = mappedId (busOf (c .numbers) (c .sender)) (n % 64) in
-    either (Why5 c) (not (eqb n own)) (λ _ e. absurd (omega (arith, e)))
-    (λ t. held-why c k (n % 64) (omega arith) (eqb-true n own (not-false (eqb n own) t)) (entryAt (c .numbers) (n % 64)) refl)
+-- 5 is one refusal
+five-why : (c : Call) (n : ℕ) → Stopped c n → n ≡ 5 → IsMarked (asked c)
+five-why c n s e = subst (Why (asked c)) (number-determines (s .refusal) Poisoned (s .number ∙ e)) (s .why)
 
 -- every call's answer
 pub five-only-there : FiveOnlyThere
-five-only-there c =
-    let rule : Packet → Answer = λ k. packetRule k (c .sender) (busOf (c .numbers) (c .sender)) (c .windows) (c .numbers) in
-    past-2 c (Why5 c) (λ e. absurd (omega (arith, e))) (λ e. absurd (omega (arith, e)))
-    (λ _ _.
-    each-form (c .packet) (λ (k : Packet). packetOf (c .packet) ≡ k → Why5 c (rule k))
-    (λ r _ _ e. absurd (no-rule r 5 (omega arith) (λ z. omega (arith, z)) e))
-    (λ _ _ q. request-why c true (inl q))
-    (λ _ _ q. request-why c false (inr q))
-    (λ _ _ q. completion-why c q)
-    refl)
+five-only-there c five = stopped-marked c (by-answer (answerOf c) (listed c) five)
+  where
+    by-answer : (a : Answer) → Listed c a → Is5 a → IsMarked (asked c)
+    by-answer (crossed x) l e = absurd e
+    by-answer (answered n x) l e = five-why c n (l .stopped) e
+    by-answer (dropped n) l e = five-why c n (l .stopped) e

@@ -1,186 +1,194 @@
--- Demand 3, the return: where a request passed and came out in another partition, a completion from there that bears the number and
--- the tag that it came out with comes back to its sender, under the sender's own number and tag; in any later state in which the call
--- is right, the entry and both buses are as they were, and the sender has some row in force to there, with the bit if the completion is
--- marked.
--- The number names bus and index, the index the entry and its owner, and none of the completion's tests fails; so it crosses, comes
--- out whole, and its bytes are those of a returned completion. Assumes nothing.
+-- Demand 3, the return: where a request passed and came out in another partition, a completion from there that bears the number and the tag
+-- that it came out with comes back to its sender, under the sender's own number and tag; in any later state in which the call is right, the
+-- entry and both buses are as they were, and the sender has some row in force to there, with the bit if the completion is marked. The number
+-- names bus and index, the index the entry and its owner, and so the completion's way is found; it comes out whole, and its bytes are those of
+-- a returned completion. Assumes nothing.
 use Prim.Native.Nat.{ℕ, _+_, _*_, _/_, _%_, _^_, _<_}
 use mathlib.Core.Path.{_≡_, refl, sym, ap, _∙_, subst}
-use mathlib.Core.Bool.{Bool, true, false, not, _&&_, true≢false}
-use mathlib.Core.List.{List}
+use mathlib.Core.Bool.{Bool, true, false, not, _&&_}
 use native.Mathlib.Omega.{arith}
-use borrow.Author.Tests.{eq-eqb, ne-eqb, eqb-true, ltb-false, not-false}
-use lib.Dec.{eqb, ltb}
-use lib.ListN.{length}
-use Rattle.header.specs.Words.{headerOf}
-use Rattle.header.specs.Fields.{totalBytes, isPoisoned, requesterId, address, completionRequesterId, completionTag}
+use borrow.Author.Tests.{eq-eqb, ne-eqb, ltb-false}
+use lib.Dec.{ltb}
+use Rattle.ground.proofs.Laws.Field.{field-lt}
+use Rattle.header.specs.Kind.{isCompletion}
+use Rattle.header.specs.Fields.{kind, isPoisoned, requesterId, address, completionRequesterId, completionTag}
 use Rattle.header.specs.Rewrite.{returned}
-use Rattle.header.proofs.Laws.Pick.{pass}
-use Rattle.header.proofs.Laws.Join.{both}
-use Rattle.header.proofs.Laws.Field.{field-lt}
+use Rattle.header.specs.declared.words.Header.{Header}
 use Rattle.header.proofs.Laws.Rewrite.{returned-requester, returned-tag}
+use Rattle.tlp.specs.Form.{formOf, packetNumber}
 use Rattle.tlp.specs.declared.form.Packet.{Packet}
+use Rattle.tlp.specs.declared.form.Packet.the-variants.{Completion}
 use Rattle.tlp.proofs.Laws.Form.{inverted-completion}
-use Rattle.windows.specs.Row.{rowOf, exponent, inForce, spans, leads}
-use Rattle.windows.specs.Look.{lowestSlot, lookUp, reaches}
-use Rattle.windows.specs.declared.look.Translation.{Translation}
-use Rattle.windows.specs.declared.look.Look.the-variants.{Open}
-use Rattle.windows.proofs.Laws.Row.{force, leads-unmarked}
-use Rattle.windows.proofs.Laws.Look.{opened, no-reach-no-row}
+use Rattle.tlp.proofs.Laws.Rules.{no-rule, two-kinds, each-form}
+use Rattle.look.proofs.Laws.Look.{reaches-by, way-unmarked, covered-away}
 use Rattle.numbers.specs.Entries.{lookAt, entryAt}
 use Rattle.numbers.specs.Buses.{busOf, isActive}
-use Rattle.numbers.specs.declared.entries.Entry.{Entry}
 use Rattle.numbers.specs.declared.entries.Entry.the-variants.{Held}
 use Rattle.switch.specs.declared.answer.Sent.{Sent}
-use Rattle.switch.specs.Answer.{Answer, crossed, sentOf}
-use Rattle.switch.specs.Rule.{wrongCall, busId, mappedId, isStopped, isPassable, toOwner, throughHeld, completionRule, packetRule, passRule}
-use Rattle.switch.specs.After.{logsAfter}
-use Rattle.demands.specs.Call.{Call, answerOf, Passed}
+use Rattle.routing.specs.declared.rule.Way.{Way}
+use Rattle.routing.specs.declared.rule.Way.the-variants.{Comes}
+use Rattle.routing.specs.Call.{HasWay, Call, headOf, sizeOf, asked}
+use Rattle.routing.specs.Rule.{busId, mappedId, passWay}
+use Rattle.routing.specs.Why.{Mapped, Owned, Passable}
+use Rattle.switch.specs.Answer.{Answer, crossed, sentOf, wayAnswer}
+use Rattle.switch.specs.After.{logsAfter, answerOf}
+use Rattle.routing.proofs.Laws.Call.{bus-lt, bus-id-lt, mapped-index}
+use Rattle.routing.proofs.Laws.Exactly.{exactly}
+use Rattle.demands.specs.Call.{Passed}
 use Rattle.demands.specs.Demand3.{Completes, Provided, ComesBack, Return}
+use Rattle.demands.proofs.Laws.Crossing.{Went, Filled, went-entered, went-filled}
+use Rattle.demands.proofs.Laws.Outgoing.{went-covered}
+use Rattle.demands.proofs.Laws.CameOut.{whole-length, came-out, came-out-whole}
+use Rattle.demands.proofs.Laws.Number.{passed-went, number-out, index-out, tag-out}
 use Rattle.demands.proofs.Laws.Bytes.{returned-bytes}
-use Rattle.demands.proofs.Laws.CameOut.{whole-completion, came-out, came-out-whole}
-use Rattle.demands.proofs.Laws.Crossing.{IsCompletion}
-use Rattle.demands.proofs.Laws.Number.{request, number-out, index-out, tag-out}
-use Rattle.demands.proofs.Laws.Outgoing.{bus-lt, bus-id-lt, mapped-index, index-lt}
 
--- an open look leads to another partition
-pub leads-away : (windows : List ℕ) (p a : ℕ) (t : Translation) → lookUp windows p a ≡ Open t → t .destination ≡ p → ⊥
-leads-away windows p a t e q =
-    let o = opened windows p a t e in
-    let w = rowOf windows p (lowestSlot windows p a) in
-    force p w (both (inForce p w) (spans (w .base) (exponent w) a) (o .1) .0) .other (sym (ap (λ (u : Translation). u .destination) (o .2)) ∙ q)
-
--- what can be returned to
-pub passable : (owner p : ℕ) (windows numbers : List ℕ) → (owner ≡ p → ⊥) → isActive numbers owner ≡ true → reaches windows owner p false ≡ true
-    → isPassable owner p windows numbers ≡ true
-passable owner p windows numbers d a r = rw (ne-eqb owner p d, a, r) refl
-
--- a completion that passes every test crosses
-pub completion-crosses : (q : ℕ) (c windows numbers : List ℕ) (logs out i id owner : ℕ) → wrongCall q (length windows) (length numbers) logs out ≡ false
-    → isActive numbers q ≡ true → IsCompletion c
-    → completionRequesterId (headerOf c) ≡ mappedId (busOf numbers q) i → i < 64 → entryAt numbers i ≡ Held id → i / 4 ≡ owner
-    → isPassable owner q windows numbers ≡ true → isStopped (headerOf c) (reaches windows owner q true) ≡ false
-    → passRule q c windows numbers logs out ≡ crossed (sentOf (returned (headerOf c) id (busId (busOf numbers owner))) owner)
-unfolding passRule completionRule toOwner
-completion-crosses q c windows numbers logs out i id owner call active k number l held own ok free =
-    let h = headerOf c in
-    let n = completionRequesterId h in
-    let rule : Packet → Answer = λ x. packetRule x q (busOf numbers q) windows numbers in
-    let here : n % 64 ≡ i = ap (λ (m : ℕ). m % 64) number ∙ mapped-index (busOf numbers q) i l in
-    let mapped : n ≡ mappedId (busOf numbers q) (n % 64) = number ∙ ap (mappedId (busOf numbers q)) (sym here) in
-    sym
-    (pass (wrongCall q (length windows) (length numbers) logs out) _ _ call
-    (pass (not (isActive numbers q)) _ _ (ap not active)
-    (pass (not (eqb n (mappedId (busOf numbers q) (n % 64)))) _ _ (ap not (eq-eqb n (mappedId (busOf numbers q) (n % 64)) mapped))
-    (pass (not (isPassable owner q windows numbers)) _ _ (ap not ok) (pass (isStopped h (reaches windows owner q true)) _ _ free refl)
-    ∙ ap (λ (o : ℕ). toOwner id o q h windows numbers) (sym own)
-    ∙ ap (λ (e : Entry). throughHeld e i q h windows numbers) (sym held)
-    ∙ ap (λ (m : ℕ). throughHeld (entryAt numbers m) m q h windows numbers) (sym here))
-    ∙ ap rule (sym k))))
+-- what breaks no rule and is of a completion's kind is read as a completion
+whole-completion : (n : ℕ) (h : Header) → isCompletion (kind h) ≡ true → packetNumber (formOf n h) ≡ 0 → formOf n h ≡ Completion h
+whole-completion n h k =
+    each-form n h (λ (m : Packet). packetNumber m ≡ 0 → m ≡ Completion h)
+    (λ r _ e. absurd (no-rule r 0 (omega arith) (λ z. omega (arith, z)) e))
+    (λ _ r _. absurd (two-kinds (kind h) r k))
+    (λ _ _ _. refl)
 
 -- the index of a slot names its partition
 owner-of : (p s i : ℕ) → s < 4 → i ≡ 4 * p + s → i / 4 ≡ p
 owner-of p s i l e = omega arith
 
--- who has a row in force to another, for packets so marked, reaches it with them
-reaches-by : (windows : List ℕ) (p q : ℕ) (marked : Bool) (s : ℕ) → s < 16 → leads p q marked (rowOf windows p s) ≡ true → reaches windows p q marked ≡ true
-reaches-by windows p q marked s l e = by-test (reaches windows p q marked) refl
-  where
-    by-test : (t : Bool) → reaches windows p q marked ≡ t → reaches windows p q marked ≡ true
-    by-test true r = r
-    by-test false r = absurd (true≢false (sym e ∙ no-reach-no-row windows p q marked r s l))
-
--- and these are not stopped
-not-stopped : (windows : List ℕ) (p q : ℕ) (marked : Bool) → reaches windows p q marked ≡ true → (marked && not (reaches windows p q true)) ≡ false
-not-stopped windows p q true r = ap not r
-not-stopped windows p q false r = refl
+-- what has the bit is not stopped
+not-stopped : (marked bit : Bool) → bit ≡ true → (marked && not bit) ≡ false
+not-stopped true bit e = ap not e
+not-stopped false bit e = refl
 
 module _ (a c : Call) (x : Sent) (p : Passed a x) (k : Completes a x c) (v : Provided a x c) where
+  -- how the request went over
+  abbrev w : Went a x
+  w = passed-went a x p
+
+  -- the entry that it went by
+  abbrev i : ℕ
+  i = w .index
+
+  -- what that holds
+  filled : Filled a i
+  filled = went-filled a x w
+
+  -- the requester's own ID
+  abbrev id : ℕ
+  id = requesterId (headOf a)
+
+  -- the completion's header words
+  abbrev h : Header
+  h = headOf c
+
+  -- whether it is marked
+  abbrev marked : Bool
+  marked = isPoisoned h
+
+  -- the owner of the entry is the request's sender
+  owner : i / 4 ≡ a .sender
+  owner = owner-of (a .sender) (filled .slot) i (filled .slot-lt) (filled .index-is)
+
   -- the completion is sent from where the request went
-  there : c .sender ≡ request a x p .through .translation .destination
-  there = k .from-there ∙ ap (λ (y : Sent). y .partition) (request a x p .through .sent)
+  there : c .sender ≡ w .way .destination
+  there = k .from-there ∙ ap (λ (y : Sent). y .partition) (w .sent)
 
   -- whose bus is as it was
-  same-bus : busOf (c .numbers) (c .sender) ≡ busOf (a .numbers) (request a x p .through .translation .destination)
+  same-bus : busOf (c .tables .numbers) (c .sender) ≡ busOf (a .tables .numbers) (w .way .destination)
   same-bus =
-      ap (busOf (c .numbers)) (k .from-there) ∙ v .bus
-      ∙ ap (λ (y : Sent). busOf (a .numbers) (y .partition)) (request a x p .through .sent)
+      ap (busOf (c .tables .numbers)) (k .from-there) ∙ v .bus
+      ∙ ap (λ (y : Sent). busOf (a .tables .numbers) (y .partition)) (w .sent)
 
   -- the number that it bears names that bus and the request's entry
-  number : completionRequesterId (headerOf (c .packet)) ≡ mappedId (busOf (c .numbers) (c .sender)) (request a x p .through .index)
-  number = k .that-number ∙ number-out a x p ∙ ap (λ (b : ℕ). mappedId b (request a x p .through .index)) (sym same-bus)
-
-  -- the entry still holds the requester's ID
-  held : entryAt (c .numbers) (request a x p .through .index) ≡ Held (requesterId (headerOf (a .packet)))
-  held =
-      subst (λ (i : ℕ). entryAt (c .numbers) i ≡ entryAt (a .numbers) i) (index-out a x p) (ap lookAt (v .entry))
-      ∙ request a x p .through .held
+  number : completionRequesterId h ≡ mappedId (busOf (c .tables .numbers) (c .sender)) i
+  number = k .that-number ∙ number-out a x p ∙ ap (λ (b : ℕ). mappedId b i) (sym same-bus)
 
   -- the request's sender is active still
-  active : isActive (c .numbers) (a .sender) ≡ true
-  active = ap (λ (b : ℕ). ltb b 256) (v .own-bus) ∙ request a x p .active
+  active : isActive (c .tables .numbers) (a .sender) ≡ true
+  active = ap (λ (b : ℕ). ltb b 256) (v .own-bus) ∙ went-entered a x w .active
 
   -- and so is the completion's
-  active-there : isActive (c .numbers) (c .sender) ≡ true
-  active-there = ap (λ (b : ℕ). ltb b 256) same-bus ∙ request a x p .through .reached
+  active-there : isActive (c .tables .numbers) (c .sender) ≡ true
+  active-there = ap (λ (b : ℕ). ltb b 256) same-bus ∙ w .reached
 
-  -- the row leads there
-  window-there : leads (a .sender) (c .sender) (isPoisoned (headerOf (c .packet))) (rowOf (c .windows) (a .sender) (v .slot)) ≡ true
-  window-there = ap (λ (q : ℕ). leads (a .sender) q (isPoisoned (headerOf (c .packet))) (rowOf (c .windows) (a .sender) (v .slot))) (k .from-there) ∙ v .window
-
-  -- they differ, and the one reaches the other
-  returnable : isPassable (a .sender) (c .sender) (c .windows) (c .numbers) ≡ true
-  returnable =
-      let t = request a x p .through in
-      passable (a .sender) (c .sender) (c .windows) (c .numbers)
-      (λ e. leads-away (a .windows) (a .sender) (address (headerOf (a .packet))) (t .translation) (t .looked) (sym there ∙ sym e)) active
-      (reaches-by (c .windows) (a .sender) (c .sender) false (v .slot) (v .slot-lt)
-      (leads-unmarked (a .sender) (c .sender) (isPoisoned (headerOf (c .packet))) (rowOf (c .windows) (a .sender) (v .slot)) window-there))
-
-  -- and if the completion is marked, some row has the bit
-  free : isStopped (headerOf (c .packet)) (reaches (c .windows) (a .sender) (c .sender) true) ≡ false
-  free =
-      let marked = isPoisoned (headerOf (c .packet)) in
-      not-stopped (c .windows) (a .sender) (c .sender) marked (reaches-by (c .windows) (a .sender) (c .sender) marked (v .slot) (v .slot-lt) window-there)
+  -- the owner has a way there
+  way-there : HasWay (c .tables) (i / 4) (c .sender) marked
+  way-there =
+      subst (λ (o : ℕ). HasWay (c .tables) o (c .sender) marked) (sym owner)
+      (subst (λ (q : ℕ). HasWay (c .tables) (a .sender) q marked) (sym (k .from-there)) (v .window))
 
   -- the completion is one
-  form : IsCompletion (c .packet)
-  form = whole-completion (c .packet) (k .well-formed) (k .completion)
+  form : formOf (sizeOf c) h ≡ Completion h
+  form = whole-completion (sizeOf c) h (k .completion) (k .well-formed)
+
+  -- it bears the entry's number
+  mapped : Mapped (asked c) i
+  mapped =
+      record {
+        returns = record { entered = record { right = k .right-call; active = active-there }; completion = form };
+        index = ap (λ (n : ℕ). n % 64) number ∙ mapped-index (busOf (c .tables .numbers) (c .sender)) i (filled .index-lt);
+        number = eq-eqb (completionRequesterId h) (mappedId (busOf (c .tables .numbers) (c .sender)) i) number;
+      }
+
+  -- the entry still holds the requester's ID
+  held : entryAt (c .tables .numbers) i ≡ Held id
+  held =
+      subst (λ (j : ℕ). entryAt (c .tables .numbers) j ≡ entryAt (a .tables .numbers) j) (index-out a x p) (ap lookAt (v .entry))
+      ∙ filled .held
+
+  -- its owner is another than the completion's sender, since a window leads away
+  owned : Owned (asked c) id i
+  owned =
+      let away = covered-away (a .tables .windows) (a .sender) (address (headOf a)) (w .way) (went-covered a x (p .lent) w) in
+      record {
+        is-held = record { mapped = mapped; held = held };
+        another = ne-eqb (i / 4) (c .sender) (λ e. away (sym there ∙ sym e ∙ owner));
+        owner-active = ap (isActive (c .tables .numbers)) owner ∙ active;
+      }
+
+  -- so it may come back
+  passable : Passable (asked c) id i
+  passable =
+      let windows = c .tables .windows in
+      record { owned = owned; row = reaches-by windows (i / 4) (c .sender) false (way-unmarked windows (i / 4) (c .sender) marked way-there) }
+
+  -- its way
+  way-back : passWay (asked c) ≡ Comes id i
+  way-back =
+      let reached = reaches-by (c .tables .windows) (i / 4) (c .sender) marked way-there in
+      exactly (asked c) (Comes id i) .1 (passable, not-stopped marked _ reached)
+
+  -- the number of the sender's bus
+  abbrev completer : ℕ
+  completer = busId (busOf (c .tables .numbers) (a .sender))
 
   -- what it comes back with
   abbrev back : Sent
-  back = sentOf (returned (headerOf (c .packet)) (requesterId (headerOf (a .packet))) (busId (busOf (c .numbers) (a .sender)))) (a .sender)
+  back = sentOf (returned h id completer) (a .sender)
 
   -- it crosses
   crosses : answerOf c ≡ crossed back
   crosses =
-      let t = request a x p .through in
-      completion-crosses (c .sender) (c .packet) (c .windows) (c .numbers) (length (c .logs)) (length (c .out)) (t .index)
-      (requesterId (headerOf (a .packet))) (a .sender) (k .right-call) active-there form number
-      (index-lt (a .sender) (headerOf (a .packet)) (a .windows) (a .numbers) x (request a x p .call .partition) (p .lent .words) t) held
-      (owner-of (a .sender) (t .slot) (t .index) (t .slot-lt) (t .index-is)) returnable free
+      ap (λ (y : Way). wayAnswer y (c .sender) h (c .tables .numbers)) way-back
+      ∙ ap (λ (o : ℕ). crossed (sentOf (returned h id (busId (busOf (c .tables .numbers) o))) o)) owner
 
   -- and comes back
   comes-back : ComesBack a c
   comes-back =
-      let s = c .packet in
-      let h = headerOf s in
-      let id = requesterId (headerOf (a .packet)) in
-      let completer = busId (busOf (c .numbers) (a .sender)) in
-      let id-lt : id < 2 ^ 16 = field-lt 16 16 (headerOf (a .packet) .w1) in
-      let bus-id : completer < 2 ^ 16 = bus-id-lt (busOf (c .numbers) (a .sender)) (bus-lt (c .numbers) (a .sender) active) in
-      let f = inverted-completion (length s) h h form .0 in
+      let id-lt : id < 2 ^ 16 = field-lt 16 16 (headOf a .w1) in
+      let bus-id : completer < 2 ^ 16 = bus-id-lt (busOf (c .tables .numbers) (a .sender)) (bus-lt (c .tables .numbers) (a .sender) active) in
+      let f = inverted-completion (sizeOf c) h h form .0 in
+      let long = ltb-false (sizeOf c) 12 (f .long) in
       let whole = came-out-whole c back (k .lent) crosses in
       record {
         back = back;
         crosses = crosses;
         partition = refl;
-        whole = sym (eqb-true (length s) (totalBytes h) (not-false (eqb (length s) (totalBytes h)) (f .whole)));
-        bytes = came-out c back (k .lent) crosses ∙ returned-bytes s (k .lent .bytes) id completer (k .completion) (ltb-false (length s) 12 (f .long)) id-lt bus-id;
+        whole = sym (whole-length (sizeOf c) h (f .whole));
+        bytes = came-out c back (k .lent) crosses ∙ returned-bytes (c .packet) (k .lent .bytes) id completer (k .completion) long id-lt bus-id;
         own-number = ap completionRequesterId (whole .header-is) ∙ returned-requester h id completer id-lt bus-id;
         own-tag = ap completionTag (whole .header-is) ∙ returned-tag h id completer id-lt bus-id ∙ k .that-tag ∙ tag-out a x p;
         beyond = whole .beyond;
-        logs = ap (λ (r : Answer). logsAfter r (c .sender) s (c .logs)) crosses;
+        logs = ap (λ (r : Answer). logsAfter r (c .sender) h (c .logs)) crosses;
       }
 
 -- the demand's sentence

@@ -10,7 +10,7 @@ use lib.Dec.{eqb}
 use Rattle.header.specs.Kind.{hasData, hasFourWords, headerBytes}
 use Rattle.header.specs.Fields.{kind, lengthField, dwords, dataBytes, totalBytes}
 use Rattle.header.specs.declared.words.Header.{Header}
-use Rattle.header.proofs.Laws.Pick.{hit, either}
+use Rattle.ground.proofs.Laws.Pick.{hit, either}
 
 -- a header is 12 or 16 bytes long
 pub header-12-or-16 : (k : ℕ) → (headerBytes k ≡ 12) ⊎ (headerBytes k ≡ 16)

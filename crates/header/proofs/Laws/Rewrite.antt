@@ -7,13 +7,13 @@ use native.Mathlib.Omega.{arith}
 use borrow.Author.Tests.{leb-true, leb-false, le-leb, lt-leb}
 use lib.Dec.{eqb, leb}
 use lib.Pow.{shr-mod, shr-shr, split}
-use Rattle.header.specs.Field.{field, place, withField}
+use Rattle.ground.specs.Field.{field, place, withField}
 use Rattle.header.specs.Kind.{hasFourWords}
 use Rattle.header.specs.Fields.{kind, requesterId, tag, highWord, lowWord, address, belowAddress, completerId, completionRequesterId, completionTag}
 use Rattle.header.specs.Rewrite.{lowWordFor, in64, in32, readdressed, renamed, returned}
 use Rattle.header.specs.declared.words.Header.{Header}
-use Rattle.header.proofs.Laws.Pick.{hit, pass, either}
-use Rattle.header.proofs.Laws.Field.{parts, field-same, field-below, field-above, field-of-field, field-lt, stays-lt}
+use Rattle.ground.proofs.Laws.Pick.{hit, pass, either}
+use Rattle.ground.proofs.Laws.Field.{parts, field-same, field-below, field-above, field-of-field, field-lt, stays-lt}
 use Rattle.header.proofs.Laws.Words.{Proper}
 
 -- a request with another requester ID

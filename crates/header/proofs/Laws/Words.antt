@@ -5,12 +5,12 @@ use mathlib.Core.Bool.{false}
 use mathlib.Core.List.{List}
 use native.Mathlib.Omega.{arith}
 use lib.Pow.{mod-pow-add, recompose}
-use Rattle.header.specs.Field.{field}
+use Rattle.ground.specs.Field.{field}
 use Rattle.header.specs.Kind.{hasFourWords}
 use Rattle.header.specs.Words.{byteAt, joined, wordAt, headerOf}
 use Rattle.header.specs.Fields.{kind}
 use Rattle.header.specs.declared.words.Header.{Header}
-use Rattle.header.proofs.Laws.Pick.{pass, either}
+use Rattle.ground.proofs.Laws.Pick.{pass, either}
 
 -- a list of bytes, as a slice of them is
 abbrev pub Bytes : List ℕ → Type 0
@@ -54,7 +54,8 @@ module _ (s : List ℕ) (b : Bytes s) where
 pub word-back : (w : ℕ) → w < 2 ^ 32 → joined (field 24 8 w) (field 16 8 w) (field 8 8 w) (field 0 8 w) ≡ w
 word-back w b =
     let low : w % 2 ^ 8 ≡ field 0 8 w = omega arith in
-    sum (field 24 8 w) (field 16 8 w) (field 8 8 w) (field 0 8 w) (w % 2 ^ 8) (w % 2 ^ 16) (w % 2 ^ 24) w low (mod-pow-add w 8 8) (mod-pow-add w 8 16) (recompose 8 24 b)
+    sum (field 24 8 w) (field 16 8 w) (field 8 8 w) (field 0 8 w) (w % 2 ^ 8) (w % 2 ^ 16) (w % 2 ^ 24) w
+    low (mod-pow-add w 8 8) (mod-pow-add w 8 16) (recompose 8 24 b)
   where
     sum : (a b c d x y z w : ℕ) → x ≡ d → y ≡ c * 2 ^ 8 + x → z ≡ b * 2 ^ 16 + y → a * 2 ^ 24 + z ≡ w → joined a b c d ≡ w
     sum a b c d x y z w p q r s = omega arith

@@ -1,4 +1,4 @@
--- What recording and clearing leave alone: the length, and every word outside the row, or other than the status. By the definitions,
+-- What recording leaves alone, the length and every word outside the row, and what clearing does, every word but the status. By the definitions,
 -- whose every store keeps the length and the words elsewhere. Assumes nothing.
 use Prim.Native.Nat.{ℕ, _+_, _-_, _≤_, _<_}
 use mathlib.Core.Path.{_≡_, refl, _∙_}
@@ -7,12 +7,12 @@ use mathlib.Core.List.{List}
 use native.Mathlib.Omega.{arith}
 use lib.ListN.{length, getD, set, length-set}
 use lib.Seq.{getD-set-other}
-use lib.Dec.{eqb, leb}
+use lib.Dec.{eqb}
 use lib.Bits.{bitAnd, bitOr}
-use Rattle.header.specs.Pick.{pick}
+use Rattle.ground.specs.Pick.{pick}
 use Rattle.header.specs.declared.words.Header.{Header}
-use Rattle.header.proofs.Laws.Pick.{either}
-use Rattle.tables.proofs.Laws.Answer.{store-length, store-elsewhere}
+use Rattle.ground.proofs.Laws.Pick.{either}
+use Rattle.ground.proofs.Laws.Table.{store-elsewhere}
 use Rattle.logs.specs.declared.Bit.{Bit}
 use Rattle.logs.specs.Logs.{rowWidth, rowAt, statusOf, bitNumber, bitMask, noted, recorded, clearNumber, clearAfter}
 
@@ -21,14 +21,13 @@ apart : (i r k : ℕ) → (i < r) ⊎ (r + rowWidth ≤ i) → k < rowWidth → 
 apart i r k (inl l) h q = omega arith
 apart i r k (inr g) h q = omega arith
 
-noted-length : (p : ℕ) (b : Bit) (h : Header) (logs : List ℕ) → length (noted p b h logs) ≡ length logs
+noted-length : (r : ℕ) (b : Bit) (h : Header) (logs : List ℕ) → length (noted r b h logs) ≡ length logs
 unfolding noted
-noted-length p b h logs = simp length-set
+noted-length r b h logs = simp length-set
 
-noted-elsewhere : (p : ℕ) (b : Bit) (h : Header) (logs : List ℕ) (i : ℕ) → (i < rowAt p) ⊎ (rowAt p + rowWidth ≤ i) → getD (noted p b h logs) i 0 ≡ getD logs i 0
+noted-elsewhere : (r : ℕ) (b : Bit) (h : Header) (logs : List ℕ) (i : ℕ) → (i < r) ⊎ (r + rowWidth ≤ i) → getD (noted r b h logs) i 0 ≡ getD logs i 0
 unfolding noted
-noted-elsewhere p b h logs i o =
-    let r = rowAt p in
+noted-elsewhere r b h logs i o =
     let l1 = set logs (r + 1) (bitNumber b) in
     let l2 = set l1 (r + 2) (h .w0) in
     let l3 = set l2 (r + 3) (h .w1) in
@@ -43,21 +42,18 @@ noted-elsewhere p b h logs i o =
 pub recorded-length : (p : ℕ) (b : Bit) (h : Header) (logs : List ℕ) → length (recorded p b h logs) ≡ length logs
 unfolding recorded
 recorded-length p b h logs =
-    let same : List ℕ → Type 0 = λ l. length l ≡ length logs in
-    let new = pick (eqb (statusOf p logs) 0) (noted p b h logs) logs in
-    either same (leb (rowAt p + rowWidth) (length logs)) (λ _. length-set new (rowAt p) (bitOr (statusOf p logs) (bitMask b)) ∙ either same (eqb (statusOf p logs) 0) (λ _. noted-length p b h logs) (λ _. refl)) (λ _. refl)
+    let new = pick (eqb (statusOf p logs) 0) (noted (rowAt p) b h logs) logs in
+    length-set new (rowAt p) (bitOr (statusOf p logs) (bitMask b))
+    ∙ either (λ (l : List ℕ). length l ≡ length logs) (eqb (statusOf p logs) 0) (λ _. noted-length (rowAt p) b h logs) (λ _. refl)
 
 -- recording keeps every word outside the row
-pub recorded-elsewhere : (p : ℕ) (b : Bit) (h : Header) (logs : List ℕ) (i : ℕ) → (i < rowAt p) ⊎ (rowAt p + rowWidth ≤ i) → getD (recorded p b h logs) i 0 ≡ getD logs i 0
+pub recorded-elsewhere : (p : ℕ) (b : Bit) (h : Header) (logs : List ℕ) (i : ℕ) → (i < rowAt p) ⊎ (rowAt p + rowWidth ≤ i)
+    → getD (recorded p b h logs) i 0 ≡ getD logs i 0
 unfolding recorded
 recorded-elsewhere p b h logs i o =
-    let same : List ℕ → Type 0 = λ l. getD l i 0 ≡ getD logs i 0 in
-    let new = pick (eqb (statusOf p logs) 0) (noted p b h logs) logs in
-    either same (leb (rowAt p + rowWidth) (length logs)) (λ _. getD-set-other new (rowAt p) i (bitOr (statusOf p logs) (bitMask b)) 0 (λ q. apart i (rowAt p) 0 o (omega arith) (omega (arith, q))) ∙ either same (eqb (statusOf p logs) 0) (λ _. noted-elsewhere p b h logs i o) (λ _. refl)) (λ _. refl)
-
--- clearing keeps the length
-pub clear-length : (p ones : ℕ) (logs : List ℕ) → length (clearAfter p ones logs) ≡ length logs
-clear-length p ones logs = store-length (clearNumber p logs) logs (rowAt p) (statusOf p logs - bitAnd (statusOf p logs) ones)
+    let new = pick (eqb (statusOf p logs) 0) (noted (rowAt p) b h logs) logs in
+    getD-set-other new (rowAt p) i (bitOr (statusOf p logs) (bitMask b)) 0 (λ q. apart i (rowAt p) 0 o (omega arith) (omega (arith, q)))
+    ∙ either (λ (l : List ℕ). getD l i 0 ≡ getD logs i 0) (eqb (statusOf p logs) 0) (λ _. noted-elsewhere (rowAt p) b h logs i o) (λ _. refl)
 
 -- clearing keeps every word but the status
 pub clear-elsewhere : (p ones : ℕ) (logs : List ℕ) (i : ℕ) → (i ≡ rowAt p → ⊥) → getD (clearAfter p ones logs) i 0 ≡ getD logs i 0

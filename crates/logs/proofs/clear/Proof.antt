@@ -1,16 +1,13 @@
 -- By the one test: refused, or done with those bits taken off, which the status has. Assumes nothing.
 use borrow.Author.Needs.{needs}
-use native.Mathlib.Omega.{arith}
-use Prim.Native.Nat.{ℕ}
-use mathlib.Core.Path.{_≡_, refl, sym, ap}
-use lib.Dec.{eqb}
-use lib.ListN.{length}
-use lib.Bits.{and-le-l}
+use mathlib.Core.Path.{refl, ap, _∙_}
+use Prim.Native.Nat.{ℕ, _-_}
+use lib.ListN.{set}
+use lib.Bits.{bitAnd, and-le-l}
 use denote.Ref.{now}
-use Rattle.header.proofs.Laws.Pick.{hit, pass, told}
-use Rattle.tables.proofs.Laws.Answer.{when-done, when-refused}
-use Rattle.logs.specs.Logs.{clearNumber}
-use Rattle.tables.proofs.Laws.Answer.{right-table}
+use Rattle.ground.proofs.Laws.Pick.{hit, pass, told}
+use Rattle.ground.proofs.Laws.Table.{refused-call, done-call}
+use Rattle.logs.specs.Logs.{rowAt, clearNumber}
 use Rattle.logs.proofs.clear.Statement.{statement}
 use Rattle.logs.proofs.clear.Tie as tie
 
@@ -19,32 +16,19 @@ wrong-table-requires c κs = search needs
 
 returns : tie.Need-returns
 unfolding clearNumber
-returns c =
-    let a = c .before .before .before .args in
-    let e : 1 ≡ clearNumber (a .p) (now (a .logs)) = hit _ _ _ (told (c .before .wrong-table .ensures) (c .if1 .taken)) refl in
-    (e, when-refused _ _ _ (ap (λ (n : ℕ). eqb n 0) (sym e)))
+returns c = refused-call _ _ _ _ (hit _ _ _ (told (c .before .wrong-table .ensures) (c .if1 .taken)) refl) refl
 
 mul-row : tie.Need-mul-row
 mul-row c = search needs
 
-mul-status : tie.Need-mul-status
-mul-status c = search needs
+word-32-requires : tie.Need-word-32-requires
+word-32-requires c κs = search needs
 
-slice-read-status : tie.Need-slice-read-status
-slice-read-status c =
-    let a = c .before .before .before .before .args in
-    omega (arith, right-table (a .p) (length (now (a .logs))) 96 (told (c .before .before .wrong-table .ensures) (c .before .if1 .left)))
+sub-put-32 : tie.Need-sub-put-32
+sub-put-32 c = and-le-l _ _
 
-sub-logs : tie.Need-sub-logs
-sub-logs c = and-le-l _ _
-
-mul-logs : tie.Need-mul-logs
-mul-logs c = search needs
-
-slice-write-logs : tie.Need-slice-write-logs
-slice-write-logs c =
-    let a = c .before .before .before .before .args in
-    omega (arith, right-table (a .p) (length (now (a .logs))) 96 (told (c .before .before .wrong-table .ensures) (c .before .if1 .left)))
+put-32-requires : tie.Need-put-32-requires
+put-32-requires c κs = search needs
 
 same-length : tie.Need-same-length
 same-length c = search needs
@@ -52,9 +36,11 @@ same-length c = search needs
 returns-2 : tie.Need-returns-2
 unfolding clearNumber
 returns-2 c =
-    let a = c .before .before .before .before .args in
-    let e : 0 ≡ clearNumber (a .p) (now (a .logs)) = pass _ _ _ (told (c .before .before .wrong-table .ensures) (c .before .if1 .left)) refl in
-    (e, when-done _ _ _ (sym e))
+    let a = c .before .before .before .before .before .before .before .before .before .args in
+    let status = c .before .before .before .before in
+    let right = told (status .before .before .before .wrong-table .ensures) (status .before .before .if1 .left) in
+    let new = ap (λ (s : ℕ). set (now (a .logs)) (rowAt (a .p)) (s - bitAnd s (a .ones))) (status .word-32 .ensures) in
+    done-call _ _ _ _ (pass _ _ _ right refl) (c .before .before .put-32 .ensures ∙ new)
 
 pub clear-spec : {M : Type 1} → statement M
 clear-spec =
@@ -63,10 +49,8 @@ clear-spec =
     wrong-table-requires
     returns
     mul-row
-    mul-status
-    slice-read-status
-    sub-logs
-    mul-logs
-    slice-write-logs
+    word-32-requires
+    sub-put-32
+    put-32-requires
     same-length
     returns-2)

@@ -6,8 +6,8 @@ use mathlib.Core.List.{List}
 use native.Mathlib.Omega.{arith}
 use borrow.Author.Tests.{ltb-true, eqb-true}
 use lib.Dec.{ltb}
-use Rattle.header.proofs.Laws.Pick.{either}
-use Rattle.tables.proofs.Laws.Scan.{holds}
+use Rattle.ground.proofs.Laws.Pick.{either}
+use Rattle.ground.proofs.Laws.Scan.{holds}
 use Rattle.numbers.specs.Entries.{slots, entryIndex, entryAt, holdsId, slotHolds, lowestSlot, entryOf}
 use Rattle.numbers.specs.declared.entries.Entry.{Entry}
 use Rattle.numbers.specs.declared.entries.Entry.the-variants.{Free, Held}

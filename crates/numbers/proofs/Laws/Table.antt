@@ -4,9 +4,9 @@ use mathlib.Core.Bool.{false}
 use mathlib.Core.Path.{_≡_}
 use borrow.Author.Tests.{ltb-false}
 use lib.Dec.{ltb}
-use Rattle.header.proofs.Laws.Join.{neither}
-use Rattle.tables.specs.Answer.{wrongTable}
-use Rattle.tables.proofs.Laws.Answer.{right-table}
+use Rattle.ground.proofs.Laws.Join.{neither}
+use Rattle.ground.specs.Table.{wrongTable}
+use Rattle.ground.proofs.Laws.Table.{right-table}
 use Rattle.numbers.specs.Entries.{wrongEntry, tableLength}
 
 -- the partition, the length and the slot

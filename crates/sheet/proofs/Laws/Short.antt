@@ -7,25 +7,25 @@ use mathlib.Core.List.{List, [], _∷_}
 use native.Mathlib.Omega.{arith}
 use borrow.Author.Tests.{lt-ltb}
 use lib.ListN.{length, List·getD-eq-default}
-use Rattle.header.specs.Pick.{pick}
+use Rattle.ground.specs.Pick.{pick}
 use Rattle.header.specs.Kind.{hasFourWords}
-use Rattle.header.specs.Words.{byteAt, wordAt, fourthWord}
-use Rattle.header.proofs.Laws.Pick.{hit, either}
-use Rattle.tlp.specs.Form.{tooShort, formOf, packetOf}
+use Rattle.header.specs.Words.{byteAt, wordAt, fourthWord, headerOf}
+use Rattle.ground.proofs.Laws.Pick.{hit, either}
+use Rattle.tlp.specs.Form.{tooShort, formOf}
 use Rattle.tlp.specs.declared.form.Packet.{Packet}
 use Rattle.tlp.specs.declared.form.Packet.the-variants.{Broken}
 use Rattle.tlp.specs.declared.form.Rule.the-variants.{TooShort}
-use Rattle.numbers.specs.Buses.{busOf}
 use Rattle.logs.specs.Logs.{noted, recorded}
-use Rattle.switch.specs.Answer.{dropped}
-use Rattle.switch.specs.Rule.{packetRule, passRule}
+use Rattle.routing.specs.Call.{lent}
+use Rattle.routing.specs.Rule.{gateOf, planOf, planWay}
+use Rattle.switch.specs.Answer.{dropped, refused, wayAnswer, passRule}
 use Rattle.switch.specs.After.{logBit, logsAfter}
 use Rattle.sheet.specs.Tables.{windows, numbers, logs}
 use Rattle.sheet.specs.Cases.{logsWith}
-use Rattle.sheet.proofs.Laws.Cases.{long-enough}
+use Rattle.sheet.proofs.Laws.Cases.{askedOf, long-enough}
 
 -- fewer than 12 bytes are read as too short
-short-form : (s : List ℕ) → length s < 12 → packetOf s ≡ Broken TooShort
+short-form : (s : List ℕ) → length s < 12 → formOf (length s) (headerOf s) ≡ Broken TooShort
 unfolding formOf
 short-form s l = sym (hit (tooShort (length s)) (Broken TooShort) _ (lt-ltb (length s) 12 l) refl)
 
@@ -39,10 +39,11 @@ no-fourth s l =
 
 -- K, whatever the bytes are
 pub too-short : (s : List ℕ) → length s < 12 → (out : ℕ) → 4112 ≤ out
-    → (passRule 1 s windows numbers 96 out ≡ dropped 31)
-    × (logsAfter (dropped 31) 1 s logs ≡ logsWith 1 (0x00040000 ∷ 18 ∷ wordAt s 0 ∷ wordAt s 4 ∷ wordAt s 8 ∷ 0 ∷ []))
-unfolding pick noted recorded logBit passRule windows numbers logs
+    → (passRule (askedOf 1 s (lent windows numbers) out) ≡ dropped 31)
+    × (logsAfter (dropped 31) 1 (headerOf s) logs ≡ logsWith 1 (0x00040000 ∷ 18 ∷ wordAt s 0 ∷ wordAt s 4 ∷ wordAt s 8 ∷ 0 ∷ []))
+unfolding pick noted recorded logBit gateOf refused windows numbers logs
 too-short s l out h = (
-  long-enough 1 s windows numbers 96 out h ∙ ap (λ (k : Packet). packetRule k 1 (busOf numbers 1) windows numbers) (short-form s l),
+  long-enough 1 s (lent windows numbers) out h
+      ∙ ap (λ (k : Packet). wayAnswer (planWay 1 (headerOf s) (lent windows numbers) (planOf k 1 2 numbers)) 1 (headerOf s) numbers) (short-form s l),
   ap (λ (w : ℕ). logsWith 1 (0x00040000 ∷ 18 ∷ wordAt s 0 ∷ wordAt s 4 ∷ wordAt s 8 ∷ w ∷ [])) (no-fourth s l),
 )

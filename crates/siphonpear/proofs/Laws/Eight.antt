@@ -4,8 +4,8 @@ use mathlib.Core.Path.{_≡_, sym, _∙_}
 use mathlib.Core.List.{List, [], _∷_, append-assoc}
 use lib.ListN.{length, take, drop, set}
 use lib.Seq.{sets-eq}
-use Rattle.tlp.specs.Write.{over}
-use Rattle.tlp.proofs.Laws.Write.{over-fits}
+use Rattle.wire.specs.Write.{over}
+use Rattle.wire.proofs.Laws.Write.{over-fits}
 
 pub eight-stores : (o : List ℕ) (a b c d e f g h : ℕ) → 8 ≤ length o
     → set (set (set (set (set (set (set (set o 0 a) 1 b) 2 c) 3 d) 4 e) 5 f) 6 g) 7 h ≡ over o 0 (a ∷ b ∷ c ∷ d ∷ e ∷ f ∷ g ∷ h ∷ [])

@@ -4,13 +4,15 @@ use Prim.Native.Nat.{ℕ}
 use mathlib.Core.Path.{_≡_, refl, sym, ap, _∙_}
 use native.Mathlib.Omega.{arith}
 use lib.Dec.{eqb}
-use Rattle.header.specs.Pick.{pick}
+use Rattle.ground.specs.Pick.{pick}
 use Rattle.tlp.specs.declared.form.Rule.the-variants.{TooShort, NotCarried, WrongLength, Enables, Contiguity, PageCrossing, ZeroHighWord}
-use Rattle.switch.specs.declared.answer.Refusal.{Refusal}
-use Rattle.switch.specs.declared.answer.Refusal.the-variants.{WrongCall, SenderInactive, Broken, Poisoned, NoWindow, NoEntry, DestinationInactive, NotPassable}
+use Rattle.routing.specs.declared.refusal.Refusal.{Refusal}
+use Rattle.routing.specs.declared.refusal.Refusal.the-variants.{WrongCall, SenderInactive, Broken, Poisoned}
+use Rattle.routing.specs.declared.refusal.Refusal.the-variants.{NoWindow, NoEntry, DestinationInactive, NotPassable}
 use Rattle.switch.specs.declared.answer.Outcome.{Outcome}
 use Rattle.switch.specs.declared.answer.Outcome.the-variants.{Crossed, Answered, Dropped}
-use Rattle.switch.specs.Answer.{refusalNumber, onPaper}
+use Rattle.switch.specs.Answer.{onPaper}
+use Rattle.routing.specs.Refusal.{refusalNumber}
 
 -- the refusal of a number
 abbrev ofNumber : ℕ → Refusal

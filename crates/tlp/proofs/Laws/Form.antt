@@ -12,23 +12,24 @@ use native.Mathlib.Omega.{arith}
 use borrow.Author.Tests.{eq-eqb, ne-eqb, eqb-true, le-ltb, not-false}
 use lib.Dec.{eqb, ltb}
 use lib.ListN.{length, drop, length-drop}
-use Rattle.header.specs.Pick.{pick}
-use Rattle.header.specs.Field.{field, place, withField}
+use Rattle.ground.specs.Pick.{pick}
+use Rattle.ground.specs.Field.{field, place, withField}
 use Rattle.header.specs.Kind.{isRead, isWrite, isCompletion, isCarried, hasData, hasFourWords, headerBytes}
 use Rattle.header.specs.Words.{headerOf}
 use Rattle.header.specs.Fields.{kind, hasDigest, addressType, dwords, dataBytes, totalBytes, lastEnables, firstEnables, highWord, lowWord, address}
-use Rattle.tlp.specs.Form.{tooShort, notCarried, wrongLength, enablesBroken, reachesUp, reachesDown, gapsAllowed, contiguityBroken, crossesPage, zeroHighWord, requestOf, requestForm, formOf, packetOf}
+use Rattle.tlp.specs.Form.{tooShort, notCarried, wrongLength, enablesBroken, reachesUp, reachesDown, gapsAllowed}
+use Rattle.tlp.specs.Form.{contiguityBroken, crossesPage, zeroHighWord, requestForm, formOf, packetOf}
 use Rattle.header.specs.Rewrite.{in64, in32, readdressed, renamed, returned}
-use Rattle.tlp.specs.Write.{packetList}
+use Rattle.wire.specs.Write.{packetList}
 use Rattle.header.specs.declared.words.Header.{Header}
 use Rattle.tlp.specs.declared.form.Packet.{Packet}
-use Rattle.tlp.specs.declared.form.Packet.the-variants.{Read, Write, Completion, Broken}
-use Rattle.header.proofs.Laws.Pick.{hit, pass, either}
-use Rattle.header.proofs.Laws.Join.{neither, one-of}
+use Rattle.tlp.specs.declared.form.Packet.the-variants.{Request, Completion, Broken}
+use Rattle.ground.proofs.Laws.Pick.{hit, pass, either}
+use Rattle.ground.proofs.Laws.Join.{neither, one-of}
 use Rattle.header.proofs.Laws.Words.{Bytes, read-proper}
 use Rattle.header.proofs.Laws.Lengths.{header-bounds}
 use Rattle.header.proofs.Laws.Rewrite
-use Rattle.tlp.proofs.Laws.Write.{length-packet, read-back}
+use Rattle.wire.proofs.Laws.Write.{length-packet, read-back}
 
 -- a request of n bytes that breaks no rule
 pub record WellFormed (n : ℕ) (h : Header) : Type 0 where
@@ -42,7 +43,7 @@ pub record WellFormed (n : ℕ) (h : Header) : Type 0 where
   pub high : zeroHighWord h ≡ false
 
 -- such a packet is read as the request that it is
-pub accepted : (n : ℕ) (h : Header) → WellFormed n h → formOf n h ≡ requestOf h
+pub accepted : (n : ℕ) (h : Header) → WellFormed n h → formOf n h ≡ Request h
 unfolding formOf requestForm
 accepted n h f =
     sym
@@ -57,13 +58,9 @@ accepted n h f =
 
 -- what was read is a request
 abbrev IsRequest : Packet → Type 0
-IsRequest (Read h) = Unit {0}
-IsRequest (Write h) = Unit {0}
+IsRequest (Request h) = Unit {0}
 IsRequest (Completion h) = ⊥
 IsRequest (Broken r) = ⊥
-
-is-request : (h : Header) → IsRequest (requestOf h)
-is-request h = either IsRequest (isRead (kind h)) (λ _. tt) (λ _. tt)
 
 -- a test whose answer is not of the sort that was read was passed over
 passed : (P : Packet → Type 0) (t : Bool) (y x p : Packet) → P p → (P y → ⊥) → pick t y x ≡ p → (t ≡ false) × (x ≡ p)
@@ -71,47 +68,21 @@ unfolding pick
 passed P true y x p r f e = absurd (f (subst P (sym e) r))
 passed P false y x p r f e = (refl, e)
 
--- a packet that is read as some request breaks no rule, and the request is its own
-read-as : (n : ℕ) (h : Header) (p : Packet) → IsRequest p → formOf n h ≡ p → WellFormed n h × (requestOf h ≡ p)
+-- what is read as a request breaks no rule, and has its own words
+pub inverted : (n : ℕ) (h g : Header) → formOf n h ≡ Request g → WellFormed n h × (g ≡ h)
 unfolding formOf requestForm
-read-as n h p r e =
-    let a = passed IsRequest (tooShort n) _ _ p r (λ x. x) e in
-    let b = passed IsRequest (notCarried h) _ _ p r (λ x. x) (a .1) in
-    let c = passed IsRequest (wrongLength n h) _ _ p r (λ x. x) (b .1) in
-    let d = passed IsRequest (isCompletion (kind h)) _ _ p r (λ x. x) (c .1) in
-    let f = passed IsRequest (enablesBroken h) _ _ p r (λ x. x) (d .1) in
-    let g = passed IsRequest (contiguityBroken h) _ _ p r (λ x. x) (f .1) in
-    let i = passed IsRequest (crossesPage h) _ _ p r (λ x. x) (g .1) in
-    let j = passed IsRequest (zeroHighWord h) _ _ p r (λ x. x) (i .1) in
-    (record { long = a .0; carried = b .0; whole = c .0; request = d .0; enables = f .0; contiguous = g .0; paged = i .0; high = j .0 }, j .1)
-
--- so only a well-formed request is read as itself,
-pub inverted : (n : ℕ) (h : Header) → formOf n h ≡ requestOf h → WellFormed n h
-inverted n h e = read-as n h (requestOf h) (is-request h) e .0
-
--- what is read as a read is one, with its own words,
-pub inverted-read : (n : ℕ) (h g : Header) → formOf n h ≡ Read g → WellFormed n h × (isRead (kind h) ≡ true) × (g ≡ h)
-unfolding pick
-inverted-read n h g e =
-    let r = read-as n h (Read g) tt e in
-    let k = by-test (isRead (kind h)) (r .1) in
-    (r .0, k .0, k .1)
-  where
-    by-test : (t : Bool) → pick t (Read h) (Write h) ≡ Read g → (t ≡ true) × (g ≡ h)
-    by-test true q = (refl, (cc))
-    by-test false q = let z : _≡_ {A = ℕ} 0 1 = cc in absurd (omega arith)
-
--- and what is read as a write is a request that is no read, with its own words
-pub inverted-write : (n : ℕ) (h g : Header) → formOf n h ≡ Write g → WellFormed n h × (isRead (kind h) ≡ false) × (g ≡ h)
-unfolding pick
-inverted-write n h g e =
-    let r = read-as n h (Write g) tt e in
-    let k = by-test (isRead (kind h)) (r .1) in
-    (r .0, k .0, k .1)
-  where
-    by-test : (t : Bool) → pick t (Read h) (Write h) ≡ Write g → (t ≡ false) × (g ≡ h)
-    by-test true q = let z : _≡_ {A = ℕ} 0 1 = cc in absurd (omega arith)
-    by-test false q = (refl, (cc))
+inverted n h g e =
+    let p = Request g in
+    let a = passed IsRequest (tooShort n) _ _ p tt (λ x. x) e in
+    let b = passed IsRequest (notCarried h) _ _ p tt (λ x. x) (a .1) in
+    let c = passed IsRequest (wrongLength n h) _ _ p tt (λ x. x) (b .1) in
+    let d = passed IsRequest (isCompletion (kind h)) _ _ p tt (λ x. x) (c .1) in
+    let f = passed IsRequest (enablesBroken h) _ _ p tt (λ x. x) (d .1) in
+    let i = passed IsRequest (contiguityBroken h) _ _ p tt (λ x. x) (f .1) in
+    let j = passed IsRequest (crossesPage h) _ _ p tt (λ x. x) (i .1) in
+    let k = passed IsRequest (zeroHighWord h) _ _ p tt (λ x. x) (j .1) in
+    let own : Request h ≡ Request g = k .1 in
+    (record { long = a .0; carried = b .0; whole = c .0; request = d .0; enables = f .0; contiguous = i .0; paged = j .0; high = k .0 }, (cc))
 
 -- a kind whose byte is g, or g with bit 5
 Group : ℕ → ℕ → Type 0
@@ -153,7 +124,13 @@ record SameKind (k m : ℕ) : Type 0 where
   carried : isCarried m ≡ isCarried k
 
 same-kind : (k m : ℕ) (r d : Bool) → Kinds k r d → Kinds m r d → SameKind k m
-same-kind k m r d p q = record { read = q .read ∙ sym (p .read); «data» = q .«data» ∙ sym (p .«data»); request = q .request; carried = q .carried ∙ sym (p .carried) }
+same-kind k m r d p q =
+    record {
+      read = q .read ∙ sym (p .read);
+      «data» = q .«data» ∙ sym (p .«data»);
+      request = q .request;
+      carried = q .carried ∙ sym (p .carried);
+    }
 
 -- the four kinds of request
 requests : (k : ℕ) → isCarried k ≡ true → isCompletion k ≡ false → Group 0x00 k ⊎ Group 0x40 k
@@ -180,7 +157,8 @@ enables-same g h p q r =
     ∙ ap (λ (k : ℕ). pick (eqb (dwords h) 1) (not (eqb (lastEnables g) 0)) (eqb k 0 || eqb (lastEnables g) 0)) q
     ∙ ap (λ (k : ℕ). pick (eqb (dwords h) 1) (not (eqb k 0)) (eqb (firstEnables h) 0 || eqb k 0)) r
 
-contiguity-same : (g h : Header) → gapsAllowed g ≡ gapsAllowed h → firstEnables g ≡ firstEnables h → lastEnables g ≡ lastEnables h → contiguityBroken g ≡ contiguityBroken h
+contiguity-same : (g h : Header) → gapsAllowed g ≡ gapsAllowed h → firstEnables g ≡ firstEnables h → lastEnables g ≡ lastEnables h
+    → contiguityBroken g ≡ contiguityBroken h
 contiguity-same g h p q r =
     ap (λ (t : Bool). not t && not (reachesUp (firstEnables g) && reachesDown (lastEnables g))) p
     ∙ ap (λ (k : ℕ). not (gapsAllowed h) && not (reachesUp k && reachesDown (lastEnables g))) q
@@ -223,7 +201,9 @@ module _ (n : ℕ) (h : Header) (a : ℕ) (f : WellFormed n h) (b : a < 2 ^ 64) 
       mod-8 x y p q = omega arith
 
   moved-page : crossesPage (readdressed h a) ≡ crossesPage h
-  moved-page = ap (λ (k : ℕ). ltb 4096 (k + 4 * dwords (readdressed h a))) (ap (λ (k : ℕ). k % 2 ^ 12) moved-address ∙ pages) ∙ ap (λ (k : ℕ). ltb 4096 (address h % 2 ^ 12 + 4 * k)) moved-dwords
+  moved-page =
+      ap (λ (k : ℕ). ltb 4096 (k + 4 * dwords (readdressed h a))) (ap (λ (k : ℕ). k % 2 ^ 12) moved-address ∙ pages)
+      ∙ ap (λ (k : ℕ). ltb 4096 (address h % 2 ^ 12 + 4 * k)) moved-dwords
 
   moved-high : zeroHighWord (readdressed h a) ≡ false
   moved-high =
@@ -244,9 +224,12 @@ module _ (n : ℕ) (h : Header) (a : ℕ) (f : WellFormed n h) (b : a < 2 ^ 64) 
 
   moved-carried : notCarried (readdressed h a) ≡ notCarried h
   moved-carried =
-      ap (λ (t : Bool). not t || hasDigest (readdressed h a) || not (eqb (addressType (readdressed h a)) 0)) (moved-kind .carried)
-      ∙ ap (λ (k : ℕ). not (isCarried (kind h)) || eqb k 1 || not (eqb (addressType (readdressed h a)) 0)) (Rewrite.readdressed-keeps-low h a b 15 1 (omega arith))
-      ∙ ap (λ (k : ℕ). not (isCarried (kind h)) || hasDigest h || not (eqb k 0)) (Rewrite.readdressed-keeps-low h a b 10 2 (omega arith))
+      let g = readdressed h a in
+      let digest = Rewrite.readdressed-keeps-low h a b 15 1 (omega arith) in
+      let type = Rewrite.readdressed-keeps-low h a b 10 2 (omega arith) in
+      ap (λ (t : Bool). not t || hasDigest g || not (eqb (addressType g) 0)) (moved-kind .carried)
+      ∙ ap (λ (k : ℕ). not (isCarried (kind h)) || eqb k 1 || not (eqb (addressType g) 0)) digest
+      ∙ ap (λ (k : ℕ). not (isCarried (kind h)) || hasDigest h || not (eqb k 0)) type
 
   -- it is well-formed again
   pub moved : WellFormed (totalBytes (readdressed h a)) (readdressed h a)
@@ -296,8 +279,7 @@ accepted-completion n h f =
 
 -- what was read is a completion
 abbrev IsCompletion : Packet → Type 0
-IsCompletion (Read h) = ⊥
-IsCompletion (Write h) = ⊥
+IsCompletion (Request h) = ⊥
 IsCompletion (Completion h) = Unit {0}
 IsCompletion (Broken r) = ⊥
 
@@ -309,8 +291,7 @@ no-completion h =
     either never (enablesBroken h) (λ _ x. x)
     (λ _. either never (contiguityBroken h) (λ _ x. x)
     (λ _. either never (crossesPage h) (λ _ x. x)
-    (λ _. either never (zeroHighWord h) (λ _ x. x)
-    (λ _. either never (isRead (kind h)) (λ _ x. x) (λ _ x. x)))))
+    (λ _. either never (zeroHighWord h) (λ _ x. x) (λ _ x. x))))
 
 -- what is read as a completion is one, with its own words
 pub inverted-completion : (n : ℕ) (h g : Header) → formOf n h ≡ Completion g → WellFormedCompletion n h × (g ≡ h)
@@ -327,21 +308,23 @@ inverted-completion n h g e =
     by-test false q = absurd (no-completion h (subst IsCompletion (sym q) tt))
 
 -- a completion's form is all in word 0, which no returning touches
-pub returned-form : (n : ℕ) (h : Header) (id completer : ℕ) → formOf n h ≡ Completion h → formOf n (returned h id completer) ≡ Completion (returned h id completer)
+pub returned-form : (n : ℕ) (h : Header) (id completer : ℕ) → formOf n h ≡ Completion h
+    → formOf n (returned h id completer) ≡ Completion (returned h id completer)
 returned-form n h id completer e =
     let f = inverted-completion n h h e .0 in
     accepted-completion n (returned h id completer) (record { long = f .long; carried = f .carried; whole = f .whole; completion = f .completion })
 
 -- "What crosses is well-formed", in bytes: the request read from s, moved by whole pages, renamed and written with its data
-pub crosses-well-formed : (s : List ℕ) (a id : ℕ) → Bytes s → packetOf s ≡ requestOf (headerOf s) → a < 2 ^ 64
+pub crosses-well-formed : (s : List ℕ) (a id : ℕ) → Bytes s → packetOf s ≡ Request (headerOf s) → a < 2 ^ 64
     → a % 2 ^ 12 ≡ address (headerOf s) % 2 ^ 12 → id < 2 ^ 16
-    → packetOf (packetList (renamed (readdressed (headerOf s) a) id) (drop (headerBytes (kind (headerOf s))) s)) ≡ requestOf (renamed (readdressed (headerOf s) a) id)
+    → packetOf (packetList (renamed (readdressed (headerOf s) a) id) (drop (headerBytes (kind (headerOf s))) s))
+    ≡ Request (renamed (readdressed (headerOf s) a) id)
 crosses-well-formed s a id bytes e b pages c =
     let h = headerOf s in
     let g = readdressed h a in
     let k = renamed g id in
     let p = drop (headerBytes (kind h)) s in
-    let f = inverted (length s) h e in
+    let f = inverted (length s) h h e .0 in
     let size : length s ≡ totalBytes h = eqb-true (length s) (totalBytes h) (not-false (eqb (length s) (totalBytes h)) (f .whole)) in
     let rest : length p ≡ dataBytes g = length-drop (headerBytes (kind h)) s ∙ (omega arith) ∙ sym (moved-data (length s) h a f b pages) in
     let whole : length (packetList k p) ≡ totalBytes g = length-packet k p ∙ ap (λ (m : ℕ). headerBytes (kind g) + m) rest in
@@ -358,7 +341,8 @@ returns-well-formed s id completer bytes e b c =
     let p = drop (headerBytes (kind h)) s in
     let f = inverted-completion (length s) h h e .0 in
     let size : length s ≡ totalBytes h = eqb-true (length s) (totalBytes h) (not-false (eqb (length s) (totalBytes h)) (f .whole)) in
-    let whole : length (packetList k p) ≡ length s = length-packet k p ∙ ap (λ (m : ℕ). headerBytes (kind h) + m) (length-drop (headerBytes (kind h)) s) ∙ (omega arith) in
+    let rest = length-drop (headerBytes (kind h)) s in
+    let whole : length (packetList k p) ≡ length s = length-packet k p ∙ ap (λ (m : ℕ). headerBytes (kind h) + m) rest ∙ (omega arith) in
     ap (λ (m : ℕ). formOf m (headerOf (packetList k p))) whole
     ∙ ap (formOf (length s)) (read-back k p (Rewrite.returned-proper h id completer b c (read-proper s bytes)))
     ∙ returned-form (length s) h id completer e

@@ -1,16 +1,16 @@
 -- What a call that was not refused was given: its partition and slot are small enough and its table has the length, its size and
 -- destination are in range, and its base is aligned, test by test. Assumes nothing.
 use Prim.Native.Nat.{ℕ, _%_, _^_, _≤_}
-use mathlib.Core.Bool.{false, not, _&&_, _||_}
+use mathlib.Core.Bool.{false, not, _||_}
 use mathlib.Core.Path.{_≡_}
-use borrow.Author.Tests.{ltb-false, eqb-true, not-false}
+use borrow.Author.Tests.{ltb-false, not-false}
 use lib.Dec.{eqb, ltb}
-use Rattle.header.proofs.Laws.Join.{both, neither}
-use Rattle.tables.specs.Answer.{wrongTable}
-use Rattle.tables.proofs.Laws.Answer.{right-table}
-use Rattle.windows.specs.Row.{tableLength, isSized, aligned}
+use Rattle.ground.proofs.Laws.Join.{neither}
+use Rattle.ground.specs.Table.{wrongTable}
+use Rattle.ground.proofs.Laws.Table.{right-table}
+use Rattle.rows.specs.Row.{tableLength, isFit}
 use Rattle.windows.specs.Edit.{wrongWindow, wrongValues}
-use Rattle.windows.proofs.Laws.Row.{sized}
+use Rattle.rows.proofs.Laws.Row.{fits}
 
 -- the partition, the length and the slot
 pub right-window : (p slot have : ℕ) → wrongWindow p slot have ≡ false → ((p ≤ 15) × (have ≡ tableLength)) × (slot ≤ 15)
@@ -20,10 +20,8 @@ right-window p slot have e =
 
 -- the size, the base and the destination
 pub right-values : (p base target k q : ℕ) → wrongValues p base target k q ≡ false → ((12 ≤ k) × (k ≤ 39)) × (base % 2 ^ k ≡ 0) × (q ≤ 15)
-unfolding wrongValues aligned
 right-values p base target k q e =
-    let n = neither (not (isSized k)) (not (aligned base k && aligned target k) || ltb 15 q || eqb q p) e in
-    let m = neither (not (aligned base k && aligned target k) || ltb 15 q) (eqb q p) (n .1) in
-    let o = neither (not (aligned base k && aligned target k)) (ltb 15 q) (m .0) in
-    let b = both (aligned base k) (aligned target k) (not-false (aligned base k && aligned target k) (o .0)) in
-    (sized k (not-false (isSized k) (n .0)), eqb-true (base % 2 ^ k) 0 (b .0), ltb-false 15 q (o .1))
+    let m = neither (not (isFit base target k) || ltb 15 q) (eqb q p) e in
+    let o = neither (not (isFit base target k)) (ltb 15 q) (m .0) in
+    let f = fits base target k (not-false (isFit base target k) (o .0)) in
+    (f .0, f .1, ltb-false 15 q (o .1))

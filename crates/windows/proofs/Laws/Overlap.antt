@@ -8,10 +8,10 @@ use native.Mathlib.Omega.{arith}
 use borrow.Author.Tests.{le-leb, lt-ltb, eqb-true, eq-eqb}
 use lib.Dec.{eqb}
 use lib.Pow.{pow-pos, split, high, low}
-use Rattle.header.proofs.Laws.Join.{and-yes}
-use Rattle.windows.specs.Row.{spans}
+use Rattle.ground.proofs.Laws.Join.{and-yes}
+use Rattle.rows.specs.Row.{spans}
 use Rattle.windows.specs.Edit.{overlap}
-use Rattle.windows.proofs.Laws.Row.{spanned, smaller}
+use Rattle.rows.proofs.Laws.Row.{spanned, smaller}
 
 -- two tests of which each tells the other are the same
 same : (s t : Bool) → (s ≡ true → t ≡ true) → (t ≡ true → s ≡ true) → s ≡ t
@@ -27,7 +27,10 @@ within c j b l o = sym (and-yes _ _ _ (le-leb c b l) (sym (lt-ltb (b - c) (2 ^ j
 
 -- an aligned span is the block of its base: it holds the addresses that have its number
 block : (c j b : ℕ) → c % 2 ^ j ≡ 0 → eqb (b / 2 ^ j) (c / 2 ^ j) ≡ spans c j b
-block c j b z = same (eqb (b / 2 ^ j) (c / 2 ^ j)) (spans c j b) (λ e. inside (eqb-true (b / 2 ^ j) (c / 2 ^ j) e)) (λ e. eq-eqb (b / 2 ^ j) (c / 2 ^ j) (number e))
+block c j b z =
+    let m = b / 2 ^ j in
+    let n = c / 2 ^ j in
+    same (eqb m n) (spans c j b) (λ e. inside (eqb-true m n e)) (λ e. eq-eqb m n (number e))
   where
     inside : b / 2 ^ j ≡ c / 2 ^ j → spans c j b ≡ true
     inside q =

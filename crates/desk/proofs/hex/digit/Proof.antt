@@ -1,5 +1,5 @@
 -- By the test on the digit, which picks where it is counted from. Assumes nothing.
-use Rattle.header.proofs.Laws.Pick.{decide}
+use Rattle.ground.proofs.Laws.Pick.{decide}
 use borrow.Author.Needs.{needs}
 use Rattle.desk.proofs.hex.digit.Statement.{statement}
 use Rattle.desk.proofs.hex.digit.Tie as tie

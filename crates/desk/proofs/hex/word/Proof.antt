@@ -2,7 +2,7 @@
 use Prim.Native.Nat.{_%_}
 use mathlib.Core.Path.{_≡_, refl}
 use native.Mathlib.Omega.{arith}
-use Rattle.header.specs.Field.{field}
+use Rattle.ground.specs.Field.{field}
 use borrow.Author.Needs.{needs}
 use Rattle.desk.proofs.hex.word.Statement.{statement}
 use Rattle.desk.proofs.hex.word.Tie as tie

@@ -2,9 +2,9 @@
 use Prim.Native.Nat.{ℕ}
 use mathlib.Core.Path.{ap, _∙_}
 use mathlib.Core.List.{List}
-use lib.ListN.{length}
 use denote.Ref.{now}
-use Rattle.switch.specs.Rule.{passRule}
+use Rattle.routing.specs.Call.{lent, Call, callOf}
+use Rattle.switch.specs.After.{answerOf, outOf}
 use Rattle.sheet.specs.Tables.{windows, numbers, logs}
 use borrow.Author.Needs.{needs}
 use Rattle.desk.proofs.passing.over_sheet.Statement.{statement}
@@ -35,20 +35,15 @@ same-length : tie.Need-same-length
 same-length c = search needs
 
 returns : tie.Need-returns
-unfolding logs
 returns c =
     let a = c .before .before .before .before .before .before .before .before .before .before .before .before .before .before .args in
     let w = c .before .before .before .before .before .before .before .before .before .before .before .windows in
     let n = c .before .before .before .before .before .before .before .before .before .before .numbers in
     let l = c .before .before .before .before .before .before .before .before .before .logs in
     let e = c .before .before .before .before .pass .ensures in
-    let o = length (now (a .out)) in (
-      e .0
-          ∙ ap (λ (t : List ℕ). passRule (a .p) (now (a .packet)) t (n .result) (length (l .result)) o) (w .ensures)
-          ∙ ap (λ (t : List ℕ). passRule (a .p) (now (a .packet)) windows t (length (l .result)) o) (n .ensures)
-          ∙ ap (λ (t : List ℕ). passRule (a .p) (now (a .packet)) windows numbers (length t) o) (l .ensures),
-      e .1 .0,
-    )
+    let over : List ℕ → List ℕ → List ℕ → Call = λ ws ns ls. callOf (a .p) (now (a .packet)) (lent ws ns) ls (now (a .out)) in
+    let same = ap (λ (t : List ℕ). over t (n .result) (l .result)) (w .ensures) ∙ ap (λ (t : List ℕ). over windows t (l .result)) (n .ensures) ∙ ap (over windows numbers) (l .ensures) in
+    (e .answer ∙ ap answerOf same, e .out-is ∙ ap outOf same)
 
 pub over-sheet-spec : {M : Type 1} → statement M
 over-sheet-spec =

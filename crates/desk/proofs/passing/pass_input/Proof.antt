@@ -1,10 +1,6 @@
 -- Where reading failed nothing was passed; else Out is what the contract of over_sheet says, at its answer. Assumes nothing.
-use mathlib.Core.Path.{refl, ap, _∙_}
+use mathlib.Core.Path.{refl}
 use mathlib.Core.Logic.{inl, inr}
-use denote.Ref.{now}
-use lib.ListN.{take}
-use Rattle.switch.specs.Answer.{Answer}
-use Rattle.switch.specs.After.{outAfter}
 use borrow.Author.Needs.{needs}
 use Rattle.desk.proofs.passing.pass_input.Statement.{statement}
 use Rattle.desk.proofs.passing.pass_input.Tie as tie
@@ -48,9 +44,7 @@ same-length-3 c = search needs
 returns-2 : tie.Need-returns-2
 returns-2 c =
     let read = c .before .before .before .before .before .before .before .before .before .before .read-full in
-    let packet = take (read .result) (read .last .1 .0) in
-    let e = c .before .before .before .over-sheet .ensures in
-    inr (read .result, e .1 ∙ ap (λ (a : Answer). outAfter a packet (now (c .before .before .before .before .before .before .before .before .before .before .before .before .before .before .args .out))) (e .0))
+    inr (read .result, c .before .before .before .over-sheet .ensures .1)
 
 pub pass-input-spec : {M : Type 1} → statement M
 pass-input-spec =

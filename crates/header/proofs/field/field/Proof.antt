@@ -2,11 +2,9 @@
 use borrow.Author.Needs.{needs}
 use lib.Pow.{pow-pos, shl-exact}
 use native.Mathlib.Omega.{arith}
-use lib.Pow.{pow-pos}
 use Prim.Native.Nat.{_*_, _^_, _%_}
 use mathlib.Core.Path.{_≡_, _∙_}
 use native.Mathlib.Nat.{one-mul}
-use lib.Pow.{shl-exact}
 use Rattle.header.proofs.field.field.Statement.{statement}
 use Rattle.header.proofs.field.field.Tie as tie
 

@@ -22,7 +22,10 @@ slice-aggregate-result : tie.Need-slice-aggregate-result
 slice-aggregate-result c = search needs
 
 returns : tie.Need-returns
-returns c = take-all (length (now (c .before .before .args .packet)) - c .before .before .args .n) (drop (c .before .before .args .n) (now (c .before .before .args .packet))) (le-of-eq (length-drop (c .before .before .args .n) (now (c .before .before .args .packet))))
+returns c =
+    let n = c .before .before .args .n in
+    let s = now (c .before .before .args .packet) in
+    take-all (length s - n) (drop n s) (le-of-eq (length-drop n s))
 
 returns-2 : tie.Need-returns-2
 returns-2 c = sym (drop-of-length-le (now (c .before .before .args .packet)) (le-of-lt (c .before .if1 .left)))

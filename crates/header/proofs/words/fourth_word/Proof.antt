@@ -1,7 +1,7 @@
 -- By byte 0: the test that led here picks the word or 0. Assumes nothing.
 use borrow.Author.Needs.{needs}
 use mathlib.Core.Path.{refl}
-use Rattle.header.proofs.Laws.Pick.{hit, pass}
+use Rattle.ground.proofs.Laws.Pick.{hit, pass}
 use Rattle.header.proofs.words.fourth_word.Statement.{statement}
 use Rattle.header.proofs.words.fourth_word.Tie as tie
 

@@ -4,7 +4,7 @@ use native.Mathlib.Omega.{arith}
 use mathlib.Core.Path.{refl}
 use borrow.Author.Tests.{lt-ltb, le-ltb}
 use denote.Ref.{now}
-use Rattle.header.proofs.Laws.Pick.{hit, pass}
+use Rattle.ground.proofs.Laws.Pick.{hit, pass}
 use Rattle.numbers.specs.Entries.{lowestSlot}
 use Rattle.numbers.proofs.entries.find.Statement.{statement}
 use Rattle.numbers.proofs.entries.find.Tie as tie

@@ -1,15 +1,9 @@
 -- By the one test: refused, or done with a word of 0. Assumes nothing.
 use borrow.Author.Needs.{needs}
-use native.Mathlib.Omega.{arith}
-use Prim.Native.Nat.{ℕ}
-use mathlib.Core.Path.{_≡_, refl, sym, ap}
-use lib.Dec.{eqb}
-use lib.ListN.{length}
-use denote.Ref.{now}
-use Rattle.header.proofs.Laws.Pick.{hit, pass, told}
-use Rattle.tables.proofs.Laws.Answer.{when-done, when-refused}
+use mathlib.Core.Path.{refl}
+use Rattle.ground.proofs.Laws.Pick.{hit, pass}
+use Rattle.ground.proofs.Laws.Table.{refused-call, done-call}
 use Rattle.numbers.specs.Entries.{freeEntryNumber}
-use Rattle.numbers.proofs.Laws.Table.{right-entry}
 use Rattle.numbers.proofs.entries.free_entry.Statement.{statement}
 use Rattle.numbers.proofs.entries.free_entry.Tie as tie
 
@@ -18,41 +12,23 @@ wrong-entry-requires c κs = search needs
 
 returns : tie.Need-returns
 unfolding freeEntryNumber
-returns c =
-    let a = c .before .before .before .args in
-    let e : 1 ≡ freeEntryNumber (a .p) (a .slot) (now (a .numbers)) = hit _ _ _ (told (c .before .wrong-entry .ensures) (c .if1 .taken)) refl in
-    (e, when-refused _ _ _ (ap (λ (n : ℕ). eqb n 0) (sym e)))
+returns c = refused-call _ _ _ _ (hit _ _ _ (cc) refl) refl
 
-mul-numbers : tie.Need-mul-numbers
-mul-numbers c =
-    let a = c .before .before .before .args in
-    omega (arith, right-entry (a .p) (a .slot) (length (now (a .numbers))) (told (c .before .wrong-entry .ensures) (c .if1 .left)))
+mul-put-32 : tie.Need-mul-put-32
+mul-put-32 c = search needs
 
-add-numbers : tie.Need-add-numbers
-add-numbers c =
-    let a = c .before .before .before .args in
-    omega (arith, right-entry (a .p) (a .slot) (length (now (a .numbers))) (told (c .before .wrong-entry .ensures) (c .if1 .left)))
+add-put-32 : tie.Need-add-put-32
+add-put-32 c = search needs
 
-cast-numbers : tie.Need-cast-numbers
-cast-numbers c = search needs
-
-mul-numbers-2 : tie.Need-mul-numbers-2
-mul-numbers-2 c = search needs
-
-slice-write-numbers : tie.Need-slice-write-numbers
-slice-write-numbers c =
-    let a = c .before .before .before .args in
-    omega (arith, right-entry (a .p) (a .slot) (length (now (a .numbers))) (told (c .before .wrong-entry .ensures) (c .if1 .left)))
+put-32-requires : tie.Need-put-32-requires
+put-32-requires c κs = search needs
 
 same-length : tie.Need-same-length
 same-length c = search needs
 
 returns-2 : tie.Need-returns-2
 unfolding freeEntryNumber
-returns-2 c =
-    let a = c .before .before .before .args in
-    let e : 0 ≡ freeEntryNumber (a .p) (a .slot) (now (a .numbers)) = pass _ _ _ (told (c .before .wrong-entry .ensures) (c .if1 .left)) refl in
-    (e, when-done _ _ _ (sym e))
+returns-2 c = done-call _ _ _ _ (pass _ _ _ (cc) refl) (c .before .before .put-32 .ensures)
 
 pub free-entry-spec : {M : Type 1} → statement M
 free-entry-spec =
@@ -60,10 +36,8 @@ free-entry-spec =
     (tie.spec
     wrong-entry-requires
     returns
-    mul-numbers
-    add-numbers
-    cast-numbers
-    mul-numbers-2
-    slice-write-numbers
+    mul-put-32
+    add-put-32
+    put-32-requires
     same-length
     returns-2)

@@ -5,10 +5,10 @@ use Prim.Native.Nat.{_≤_, _-_}
 use mathlib.Core.Path.{_≡_, refl, sym, _∙_}
 use borrow.Author.Tests.{lt-ltb, le-ltb}
 use denote.Ref.{now}
-use Rattle.header.proofs.Laws.Pick.{told}
-use Rattle.tables.specs.Scan.{first}
+use Rattle.ground.proofs.Laws.Pick.{told}
+use Rattle.ground.specs.Scan.{first}
 use Rattle.numbers.specs.Entries.{otherHolds}
-use Rattle.tables.proofs.Laws.Scan.{stop, go-on, end}
+use Rattle.ground.proofs.Laws.Scan.{stop, go-on, end}
 use Rattle.numbers.proofs.entries.held_elsewhere.Statement.{statement}
 use Rattle.numbers.proofs.entries.held_elsewhere.Tie as tie
 
@@ -27,9 +27,10 @@ other-holds-requires c κs = search needs
 returns : tie.Need-returns Inv-loop μ-loop
 returns c =
     let a = c .before .before .before .before .before .args in
-    let s = c .before .before .before .loop .s in
-    let e = c .before .before .before .loop .inv .1 ∙ stop (otherHolds (now (a .numbers)) (a .p) (a .slot) (a .id)) s 4 (omega arith) (told (c .before .other-holds .ensures) (c .if1 .taken)) in
-    sym (lt-ltb (first (otherHolds (now (a .numbers)) (a .p) (a .slot) (a .id)) 0 4) 4 (omega (arith, e)))
+    let l = c .before .before .before .loop in
+    let test = otherHolds (now (a .numbers)) (a .p) (a .slot) (a .id) in
+    let e = l .inv .1 ∙ stop test (l .s) 4 (omega arith) (told (c .before .other-holds .ensures) (c .if1 .taken)) in
+    sym (lt-ltb (first test 0 4) 4 (omega (arith, e)))
 
 add-s : tie.Need-add-s Inv-loop μ-loop
 add-s c = search needs
@@ -40,14 +41,16 @@ loop-less c = omega arith
 loop-again : tie.Need-loop-again Inv-loop μ-loop
 loop-again c =
     let a = c .before .before .before .before .before .args in
-    let s = c .before .before .before .loop .s in
-    (omega arith, c .before .before .before .loop .inv .1 ∙ go-on (otherHolds (now (a .numbers)) (a .p) (a .slot) (a .id)) s 4 (omega arith) (told (c .before .other-holds .ensures) (c .if1 .left)))
+    let l = c .before .before .before .loop in
+    let test = otherHolds (now (a .numbers)) (a .p) (a .slot) (a .id) in
+    (omega arith, l .inv .1 ∙ go-on test (l .s) 4 (omega arith) (told (c .before .other-holds .ensures) (c .if1 .left)))
 
 returns-2 : tie.Need-returns-2 Inv-loop μ-loop
 returns-2 c =
     let a = c .before .before .before .args in
-    let e = c .before .loop .inv .1 ∙ end (otherHolds (now (a .numbers)) (a .p) (a .slot) (a .id)) (c .before .loop .s) 4 (omega arith) in
-    sym (le-ltb (first (otherHolds (now (a .numbers)) (a .p) (a .slot) (a .id)) 0 4) 4 (omega (arith, e)))
+    let test = otherHolds (now (a .numbers)) (a .p) (a .slot) (a .id) in
+    let e = c .before .loop .inv .1 ∙ end test (c .before .loop .s) 4 (omega arith) in
+    sym (le-ltb (first test 0 4) 4 (omega (arith, e)))
 
 pub held-elsewhere-spec : {M : Type 1} → statement M
 held-elsewhere-spec =

@@ -4,8 +4,8 @@ use native.Mathlib.Omega.{arith}
 use Prim.Native.Nat.{ℕ, _/_, _%_}
 use mathlib.Core.Path.{_≡_, refl, ap}
 use borrow.Author.Tests.{eq-eqb, ne-eqb}
-use Rattle.header.specs.Field.{field}
-use Rattle.header.proofs.Laws.Pick.{hit, pass}
+use Rattle.ground.specs.Field.{field}
+use Rattle.ground.proofs.Laws.Pick.{hit, pass}
 use Rattle.numbers.specs.Entries.{lookAt}
 use Rattle.numbers.specs.declared.entries.Entry.the-variants.{Held}
 use Rattle.numbers.proofs.entries.look.Statement.{statement}

@@ -4,10 +4,10 @@ use native.Mathlib.Omega.{arith}
 use Prim.Native.Nat.{_≤_, _-_}
 use mathlib.Core.Path.{_≡_, refl, sym, _∙_}
 use denote.Ref.{now}
-use Rattle.header.proofs.Laws.Pick.{told}
-use Rattle.tables.specs.Scan.{first}
+use Rattle.ground.proofs.Laws.Pick.{told}
+use Rattle.ground.specs.Scan.{first}
 use Rattle.numbers.specs.Entries.{slotHolds, lowestSlot}
-use Rattle.tables.proofs.Laws.Scan.{stop, go-on, end}
+use Rattle.ground.proofs.Laws.Scan.{stop, go-on, end}
 use Rattle.numbers.proofs.entries.lowest_slot.Statement.{statement}
 use Rattle.numbers.proofs.entries.lowest_slot.Tie as tie
 
@@ -26,8 +26,9 @@ slot-holds-requires c κs = search needs
 returns : tie.Need-returns Inv-loop μ-loop
 returns c =
     let a = c .before .before .before .before .before .args in
-    let s = c .before .before .before .loop .s in
-    sym (c .before .before .before .loop .inv .1 ∙ stop (slotHolds (now (a .numbers)) (a .p) (a .id)) s 4 (omega arith) (told (c .before .slot-holds .ensures) (c .if1 .taken)))
+    let l = c .before .before .before .loop in
+    let test = slotHolds (now (a .numbers)) (a .p) (a .id) in
+    sym (l .inv .1 ∙ stop test (l .s) 4 (omega arith) (told (c .before .slot-holds .ensures) (c .if1 .taken)))
 
 add-s : tie.Need-add-s Inv-loop μ-loop
 add-s c = search needs
@@ -38,8 +39,9 @@ loop-less c = omega arith
 loop-again : tie.Need-loop-again Inv-loop μ-loop
 loop-again c =
     let a = c .before .before .before .before .before .args in
-    let s = c .before .before .before .loop .s in
-    (omega arith, c .before .before .before .loop .inv .1 ∙ go-on (slotHolds (now (a .numbers)) (a .p) (a .id)) s 4 (omega arith) (told (c .before .slot-holds .ensures) (c .if1 .left)))
+    let l = c .before .before .before .loop in
+    let test = slotHolds (now (a .numbers)) (a .p) (a .id) in
+    (omega arith, l .inv .1 ∙ go-on test (l .s) 4 (omega arith) (told (c .before .slot-holds .ensures) (c .if1 .left)))
 
 returns-2 : tie.Need-returns-2 Inv-loop μ-loop
 returns-2 c =

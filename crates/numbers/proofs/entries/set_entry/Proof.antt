@@ -1,13 +1,11 @@
 -- Test by test as in the definition: refused twice, or done with the word that holds the ID. Assumes nothing.
 use borrow.Author.Needs.{needs}
+use mathlib.Core.Path.{refl}
 use native.Mathlib.Omega.{arith}
-use Prim.Native.Nat.{ℕ}
-use mathlib.Core.Path.{_≡_, refl, sym, ap}
-use lib.Dec.{eqb}
 use lib.ListN.{length}
 use denote.Ref.{now}
-use Rattle.header.proofs.Laws.Pick.{hit, pass, told}
-use Rattle.tables.proofs.Laws.Answer.{when-done, when-refused}
+use Rattle.ground.proofs.Laws.Pick.{hit, pass, told}
+use Rattle.ground.proofs.Laws.Table.{refused-call, done-call}
 use Rattle.numbers.specs.Entries.{setEntryNumber}
 use Rattle.numbers.proofs.Laws.Table.{right-entry}
 use Rattle.numbers.proofs.entries.set_entry.Statement.{statement}
@@ -18,10 +16,7 @@ wrong-entry-requires c κs = search needs
 
 returns : tie.Need-returns
 unfolding setEntryNumber
-returns c =
-    let a = c .before .before .before .args in
-    let e : 1 ≡ setEntryNumber (a .p) (a .slot) (a .id) (now (a .numbers)) = hit _ _ _ (told (c .before .wrong-entry .ensures) (c .if1 .taken)) refl in
-    (e, when-refused _ _ _ (ap (λ (n : ℕ). eqb n 0) (sym e)))
+returns c = refused-call _ _ _ _ (hit _ _ _ (told (c .before .wrong-entry .ensures) (c .if1 .taken)) refl) refl
 
 cast-held-elsewhere : tie.Need-cast-held-elsewhere
 cast-held-elsewhere c =
@@ -42,33 +37,22 @@ same-length c = search needs
 returns-2 : tie.Need-returns-2
 unfolding setEntryNumber
 returns-2 c =
-    let a = c .before .before .before .before .before .before .args in
-    let e : 12 ≡ setEntryNumber (a .p) (a .slot) (a .id) (now (a .numbers)) = pass _ _ _ (told (c .before .before .before .before .wrong-entry .ensures) (c .before .before .before .if1 .left)) (hit _ _ _ (told (c .before .held-elsewhere .ensures) (c .if2 .taken)) refl) in
-    (e, when-refused _ _ _ (ap (λ (n : ℕ). eqb n 0) (sym e)))
+    refused-call _ _ _ _
+    (pass _ _ _ (told (c .before .before .before .before .wrong-entry .ensures) (c .before .before .before .if1 .left))
+    (hit _ _ _ (told (c .before .held-elsewhere .ensures) (c .if2 .taken)) refl))
+    refl
 
-add-numbers : tie.Need-add-numbers
-add-numbers c = search needs
+mul-put-32 : tie.Need-mul-put-32
+mul-put-32 c = search needs
 
-mul-numbers : tie.Need-mul-numbers
-mul-numbers c =
-    let a = c .before .before .before .before .before .before .args in
-    omega (arith, right-entry (a .p) (a .slot) (length (now (a .numbers))) (told (c .before .before .before .before .wrong-entry .ensures) (c .before .before .before .if1 .left)))
+add-put-32 : tie.Need-add-put-32
+add-put-32 c = search needs
 
-add-numbers-2 : tie.Need-add-numbers-2
-add-numbers-2 c =
-    let a = c .before .before .before .before .before .before .args in
-    omega (arith, right-entry (a .p) (a .slot) (length (now (a .numbers))) (told (c .before .before .before .before .wrong-entry .ensures) (c .before .before .before .if1 .left)))
+add-put-32-2 : tie.Need-add-put-32-2
+add-put-32-2 c = search needs
 
-cast-numbers : tie.Need-cast-numbers
-cast-numbers c = search needs
-
-mul-numbers-2 : tie.Need-mul-numbers-2
-mul-numbers-2 c = search needs
-
-slice-write-numbers : tie.Need-slice-write-numbers
-slice-write-numbers c =
-    let a = c .before .before .before .before .before .before .args in
-    omega (arith, right-entry (a .p) (a .slot) (length (now (a .numbers))) (told (c .before .before .before .before .wrong-entry .ensures) (c .before .before .before .if1 .left)))
+put-32-requires : tie.Need-put-32-requires
+put-32-requires c κs = search needs
 
 same-length-2 : tie.Need-same-length-2
 same-length-2 c = search needs
@@ -76,9 +60,10 @@ same-length-2 c = search needs
 returns-3 : tie.Need-returns-3
 unfolding setEntryNumber
 returns-3 c =
-    let a = c .before .before .before .before .before .before .args in
-    let e : 0 ≡ setEntryNumber (a .p) (a .slot) (a .id) (now (a .numbers)) = pass _ _ _ (told (c .before .before .before .before .wrong-entry .ensures) (c .before .before .before .if1 .left)) (pass _ _ _ (told (c .before .held-elsewhere .ensures) (c .if2 .left)) refl) in
-    (e, when-done _ _ _ (sym e))
+    let held = c .before .before .before .before .before in
+    let right = told (held .before .before .before .wrong-entry .ensures) (held .before .before .if1 .left) in
+    let free = told (held .held-elsewhere .ensures) (c .before .before .before .before .if2 .left) in
+    done-call _ _ _ _ (pass _ _ _ right (pass _ _ _ free refl)) (c .before .before .put-32 .ensures)
 
 pub set-entry-spec : {M : Type 1} → statement M
 set-entry-spec =
@@ -91,11 +76,9 @@ set-entry-spec =
     held-elsewhere-requires
     same-length
     returns-2
-    add-numbers
-    mul-numbers
-    add-numbers-2
-    cast-numbers
-    mul-numbers-2
-    slice-write-numbers
+    mul-put-32
+    add-put-32
+    add-put-32-2
+    put-32-requires
     same-length-2
     returns-3)

@@ -4,7 +4,7 @@ use Prim.Native.Nat.{_≤_}
 use mathlib.Core.Path.{_≡_, subst}
 use Rattle.switch.specs.Answer.{onPaper}
 use Rattle.switch.specs.declared.answer.Outcome.{Outcome}
-use Rattle.siphonpear.specs.Abi.{lengthOf}
+use Rattle.switch.specs.Answer.{lengthOf}
 use Rattle.siphonpear.proofs.passing.put_answer.Statement.{statement}
 use Rattle.siphonpear.proofs.passing.put_answer.Tie as tie
 

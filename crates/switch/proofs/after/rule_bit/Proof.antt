@@ -1,6 +1,6 @@
 -- By the rule: the list's column is read at its number. Assumes nothing.
 use borrow.Author.Needs.{needs}
-use Rattle.header.specs.Pick.{pick}
+use Rattle.ground.specs.Pick.{pick}
 use Rattle.switch.specs.After.{logBit}
 use Rattle.switch.proofs.after.rule_bit.Statement.{statement}
 use Rattle.switch.proofs.after.rule_bit.Tie as tie

@@ -2,9 +2,7 @@
 use borrow.Author.Needs.{needs}
 use mathlib.Core.Path.{ap, _∙_}
 use denote.Ref.{now}
-use Rattle.header.specs.declared.words.Header.{Header}
-use Rattle.switch.specs.Answer.{refusalNumber}
-use Rattle.switch.specs.After.{logBit, logged}
+use Rattle.switch.specs.After.{logged}
 use Rattle.switch.specs.declared.after.Logged.{Logged}
 use Rattle.switch.proofs.after.write_log.Statement.{statement}
 use Rattle.switch.proofs.after.write_log.Tie as tie
@@ -31,25 +29,25 @@ log-requires-2 : tie.Need-log-requires-2
 log-requires-2 c κs = search needs
 
 returns : tie.Need-returns
-returns c packet e = rw (c .enum-told .given .1)
+returns c = search needs
 
 same-length : tie.Need-same-length
 same-length c = search needs
 
 returns-2 : tie.Need-returns-2
-returns-2 c packet e =
+returns-2 c =
     let a = c .before .before .before .before .before .before .before .before .before .args in
-    let o = c .before .before .before .before .before .before .outcome in
-    rw (o .given .1) (c .before .before .log .ensures ∙ ap (λ (l : Logged). logged l (a .p) (a .h) (now (a .logs))) (c .before .before .before .before .log-bit .ensures) ∙ ap (λ (h : Header). logged (logBit (refusalNumber (o .given .0 .0))) (a .p) h (now (a .logs))) e)
+    let bit = ap (λ (l : Logged). logged l (a .p) (a .h) (now (a .logs))) (c .before .before .before .before .log-bit .ensures) in
+    rw (c .before .before .before .before .before .before .outcome .given .1) (c .before .before .log .ensures ∙ bit)
 
 same-length-2 : tie.Need-same-length-2
 same-length-2 c = search needs
 
 returns-3 : tie.Need-returns-3
-returns-3 c packet e =
+returns-3 c =
     let a = c .before .before .before .before .before .before .before .before .before .args in
-    let o = c .before .before .before .before .before .before .outcome2 in
-    rw (o .given .1) (c .before .before .log2 .ensures ∙ ap (λ (l : Logged). logged l (a .p) (a .h) (now (a .logs))) (c .before .before .before .before .log-bit2 .ensures) ∙ ap (λ (h : Header). logged (logBit (refusalNumber (o .given .0 .0))) (a .p) h (now (a .logs))) e)
+    let bit = ap (λ (l : Logged). logged l (a .p) (a .h) (now (a .logs))) (c .before .before .before .before .log-bit2 .ensures) in
+    rw (c .before .before .before .before .before .before .outcome2 .given .1) (c .before .before .log2 .ensures ∙ bit)
 
 pub write-log-spec : {M : Type 1} → statement M
 write-log-spec =

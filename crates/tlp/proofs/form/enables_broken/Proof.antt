@@ -1,6 +1,6 @@
 -- By the Length: each case tests the enables that the rule names. Assumes nothing.
 use borrow.Author.Needs.{needs}
-use Rattle.header.proofs.Laws.Pick.{decide}
+use Rattle.ground.proofs.Laws.Pick.{decide}
 use Rattle.tlp.proofs.form.enables_broken.Statement.{statement}
 use Rattle.tlp.proofs.form.enables_broken.Tie as tie
 

@@ -1,6 +1,6 @@
 -- Test by test, in the order of the definition. Assumes nothing.
 use borrow.Author.Needs.{needs}
-use Rattle.header.proofs.Laws.Pick.{decide}
+use Rattle.ground.proofs.Laws.Pick.{decide}
 use Rattle.tlp.specs.Form.{formOf}
 use Rattle.tlp.proofs.form.form.Statement.{statement}
 use Rattle.tlp.proofs.form.form.Tie as tie

@@ -1,6 +1,6 @@
 -- Test by test, in the order of the definition. Assumes nothing.
 use borrow.Author.Needs.{needs}
-use Rattle.header.proofs.Laws.Pick.{decide}
+use Rattle.ground.proofs.Laws.Pick.{decide}
 use Rattle.tlp.specs.Form.{requestForm}
 use Rattle.tlp.proofs.form.request_form.Statement.{statement}
 use Rattle.tlp.proofs.form.request_form.Tie as tie
@@ -33,16 +33,9 @@ returns-4 : tie.Need-returns-4
 unfolding requestForm
 returns-4 c = search decide depth 8
 
-is-read-requires : tie.Need-is-read-requires
-is-read-requires c κs = search needs
-
 returns-5 : tie.Need-returns-5
 unfolding requestForm
 returns-5 c = search decide depth 8
-
-returns-6 : tie.Need-returns-6
-unfolding requestForm
-returns-6 c = search decide depth 8
 
 pub request-form-spec : {M : Type 1} → statement M
 request-form-spec =
@@ -56,6 +49,4 @@ request-form-spec =
     returns-3
     zero-high-word-requires
     returns-4
-    is-read-requires
-    returns-5
-    returns-6)
+    returns-5)

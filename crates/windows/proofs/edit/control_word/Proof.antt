@@ -3,8 +3,8 @@ use borrow.Author.Needs.{needs}
 use native.Mathlib.Omega.{arith}
 use Prim.Native.Nat.{ℕ}
 use mathlib.Core.Path.{_≡_, refl}
-use Rattle.header.specs.Pick.{pick}
-use Rattle.header.proofs.Laws.Pick.{hit, pass}
+use Rattle.ground.specs.Pick.{pick}
+use Rattle.ground.proofs.Laws.Pick.{hit, pass}
 use Rattle.windows.proofs.edit.control_word.Statement.{statement}
 use Rattle.windows.proofs.edit.control_word.Tie as tie
 

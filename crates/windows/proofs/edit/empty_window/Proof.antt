@@ -1,13 +1,11 @@
 -- By the one test: refused, or done with a row of zeros. Assumes nothing.
 use borrow.Author.Needs.{needs}
 use native.Mathlib.Omega.{arith}
-use Prim.Native.Nat.{ℕ}
-use mathlib.Core.Path.{_≡_, refl, sym, ap, _∙_}
-use lib.Dec.{eqb}
+use mathlib.Core.Path.{refl}
 use lib.ListN.{length}
 use denote.Ref.{now}
-use Rattle.header.proofs.Laws.Pick.{hit, pass, told}
-use Rattle.tables.proofs.Laws.Answer.{when-done, when-refused}
+use Rattle.ground.proofs.Laws.Pick.{hit, pass, told}
+use Rattle.ground.proofs.Laws.Table.{refused-call, done-call}
 use Rattle.windows.specs.Edit.{emptyWindowNumber}
 use Rattle.windows.proofs.Laws.Edit.{right-window}
 use Rattle.windows.proofs.edit.empty_window.Statement.{statement}
@@ -18,10 +16,7 @@ wrong-window-requires c κs = search needs
 
 returns : tie.Need-returns
 unfolding emptyWindowNumber
-returns c =
-    let a = c .before .before .before .args in
-    let e : 1 ≡ emptyWindowNumber (a .p) (a .slot) (now (a .windows)) = hit _ _ _ (told (c .before .wrong-window .ensures) (c .if1 .taken)) refl in
-    (e, when-refused _ _ _ (ap (λ (n : ℕ). eqb n 0) (sym e)))
+returns c = refused-call _ _ _ _ (hit _ _ _ (told (c .before .wrong-window .ensures) (c .if1 .taken)) refl) refl
 
 cast-put-row : tie.Need-cast-put-row
 cast-put-row c =
@@ -34,9 +29,7 @@ cast-put-row-2 c =
     omega (arith, right-window (a .p) (a .slot) (length (now (a .windows))) (told (c .before .before .wrong-window .ensures) (c .before .if1 .left)))
 
 put-row-requires : tie.Need-put-row-requires
-put-row-requires c κs =
-    let a = c .before .before .before .before .args in
-    omega (arith, right-window (a .p) (a .slot) (length (now (a .windows))) (told (c .before .before .wrong-window .ensures) (c .before .if1 .left)))
+put-row-requires c κs = search needs
 
 same-length : tie.Need-same-length
 same-length c = search needs
@@ -44,9 +37,8 @@ same-length c = search needs
 returns-2 : tie.Need-returns-2
 unfolding emptyWindowNumber
 returns-2 c =
-    let a = c .before .before .before .before .before .before .before .args in
-    let e : 0 ≡ emptyWindowNumber (a .p) (a .slot) (now (a .windows)) = pass _ _ _ (told (c .before .before .before .before .before .wrong-window .ensures) (c .before .before .before .before .if1 .left)) refl in
-    (e, c .before .before .put-row .ensures ∙ when-done _ _ _ (sym e))
+    let test = c .before .before .before .before in
+    done-call _ _ _ _ (pass _ _ _ (told (test .before .wrong-window .ensures) (test .if1 .left)) refl) (c .before .before .put-row .ensures)
 
 pub empty-window-spec : {M : Type 1} → statement M
 empty-window-spec =

@@ -4,9 +4,9 @@ use Prim.Native.Nat.{_-_, _≤_}
 use mathlib.Core.Path.{_≡_, refl, sym, _∙_}
 use native.Mathlib.Omega.{arith}
 use denote.Ref.{now}
-use Rattle.header.proofs.Laws.Pick.{told}
-use Rattle.tables.specs.Scan.{first}
-use Rattle.tables.proofs.Laws.Scan.{stop, go-on, end}
+use Rattle.ground.proofs.Laws.Pick.{told}
+use Rattle.ground.specs.Scan.{first}
+use Rattle.ground.proofs.Laws.Scan.{stop, go-on, end}
 use Rattle.windows.specs.Edit.{otherOverlaps, overlappedSlot}
 use Rattle.windows.proofs.edit.overlapped_slot.Statement.{statement}
 use Rattle.windows.proofs.edit.overlapped_slot.Tie as tie
@@ -26,8 +26,9 @@ other-overlaps-requires c κs = search needs
 returns : tie.Need-returns Inv-loop μ-loop
 returns c =
     let a = c .before .before .before .before .before .args in
-    let s = c .before .before .before .loop .s in
-    sym (c .before .before .before .loop .inv .1 ∙ stop (otherOverlaps (now (a .windows)) (a .p) (a .slot) (a .base) (a .k)) s 16 (omega arith) (told (c .before .other-overlaps .ensures) (c .if1 .taken)))
+    let l = c .before .before .before .loop in
+    let test = otherOverlaps (now (a .windows)) (a .p) (a .slot) (a .base) (a .k) in
+    sym (l .inv .1 ∙ stop test (l .s) 16 (omega arith) (told (c .before .other-overlaps .ensures) (c .if1 .taken)))
 
 add-s : tie.Need-add-s Inv-loop μ-loop
 add-s c = search needs
@@ -38,8 +39,9 @@ loop-less c = omega arith
 loop-again : tie.Need-loop-again Inv-loop μ-loop
 loop-again c =
     let a = c .before .before .before .before .before .args in
-    let s = c .before .before .before .loop .s in
-    (omega arith, c .before .before .before .loop .inv .1 ∙ go-on (otherOverlaps (now (a .windows)) (a .p) (a .slot) (a .base) (a .k)) s 16 (omega arith) (told (c .before .other-overlaps .ensures) (c .if1 .left)))
+    let l = c .before .before .before .loop in
+    let test = otherOverlaps (now (a .windows)) (a .p) (a .slot) (a .base) (a .k) in
+    (omega arith, l .inv .1 ∙ go-on test (l .s) 16 (omega arith) (told (c .before .other-overlaps .ensures) (c .if1 .left)))
 
 returns-2 : tie.Need-returns-2 Inv-loop μ-loop
 returns-2 c =

@@ -1,7 +1,5 @@
--- Each store keeps the length, so the row stays inside; the three stores are the row. Assumes nothing.
+-- Each word is put by its own call, and the three together are the row. Assumes nothing.
 use borrow.Author.Needs.{needs}
-use native.Mathlib.Omega.{arith}
-use lib.ListN.{length-set}
 use Rattle.windows.proofs.edit.put_row.Statement.{statement}
 use Rattle.windows.proofs.edit.put_row.Tie as tie
 
@@ -14,35 +12,26 @@ add-at c = search needs
 mul-at-2 : tie.Need-mul-at-2
 mul-at-2 c = search needs
 
-mul-windows : tie.Need-mul-windows
-mul-windows c = search needs
+put-64-requires : tie.Need-put-64-requires
+put-64-requires c κs = search needs
 
-slice-write-windows : tie.Need-slice-write-windows
-slice-write-windows c = search needs
+add-put-64 : tie.Need-add-put-64
+add-put-64 c = search needs
 
-add-windows : tie.Need-add-windows
-add-windows c = search needs
+put-64-requires-2 : tie.Need-put-64-requires-2
+put-64-requires-2 c κs = search needs
 
-mul-windows-2 : tie.Need-mul-windows-2
-mul-windows-2 c = search needs
+add-put-64-2 : tie.Need-add-put-64-2
+add-put-64-2 c = search needs
 
-slice-write-windows-2 : tie.Need-slice-write-windows-2
-slice-write-windows-2 c = simp length-set (omega arith)
-
-add-windows-2 : tie.Need-add-windows-2
-add-windows-2 c = search needs
-
-mul-windows-3 : tie.Need-mul-windows-3
-mul-windows-3 c = search needs
-
-slice-write-windows-3 : tie.Need-slice-write-windows-3
-slice-write-windows-3 c = simp length-set (omega arith)
+put-64-requires-3 : tie.Need-put-64-requires-3
+put-64-requires-3 c κs = search needs
 
 same-length : tie.Need-same-length
 same-length c = search needs
 
 returns : tie.Need-returns
-returns c = search needs
+returns c = cc
 
 pub put-row-spec : {M : Type 1} → statement M
 put-row-spec =
@@ -51,13 +40,10 @@ put-row-spec =
     mul-at
     add-at
     mul-at-2
-    mul-windows
-    slice-write-windows
-    add-windows
-    mul-windows-2
-    slice-write-windows-2
-    add-windows-2
-    mul-windows-3
-    slice-write-windows-3
+    put-64-requires
+    add-put-64
+    put-64-requires-2
+    add-put-64-2
+    put-64-requires-3
     same-length
     returns)

@@ -1,9 +1,9 @@
 -- A row that is not in force overlaps nothing; one in force is aligned and its shift in range, and the spans say. Assumes nothing.
 use borrow.Author.Needs.{needs}
 use native.Mathlib.Omega.{arith}
-use Rattle.header.proofs.Laws.Pick.{told}
-use Rattle.header.proofs.Laws.Join.{and-no, and-yes}
-use Rattle.windows.proofs.Laws.Row.{plain-size, force}
+use Rattle.ground.proofs.Laws.Pick.{told}
+use Rattle.ground.proofs.Laws.Join.{and-no, and-yes}
+use Rattle.rows.proofs.Laws.Row.{plain-size, force}
 use Rattle.windows.proofs.edit.row_overlaps.Statement.{statement}
 use Rattle.windows.proofs.edit.row_overlaps.Tie as tie
 

@@ -1,6 +1,6 @@
 -- By the kind: the test that led here picks the length. Assumes nothing.
 use borrow.Author.Needs.{needs}
-use Rattle.header.proofs.Laws.Pick.{decide}
+use Rattle.ground.proofs.Laws.Pick.{decide}
 use Rattle.header.proofs.kind.Kind.header_bytes.Statement.{statement}
 use Rattle.header.proofs.kind.Kind.header_bytes.Tie as tie
 

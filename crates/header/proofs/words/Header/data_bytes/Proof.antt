@@ -1,7 +1,7 @@
 -- By the kind: four bytes a dword, or none. Assumes nothing.
 use borrow.Author.Needs.{needs}
 use mathlib.Core.Path.{refl}
-use Rattle.header.proofs.Laws.Pick.{hit, pass}
+use Rattle.ground.proofs.Laws.Pick.{hit, pass}
 use Rattle.header.proofs.words.Header.data_bytes.Statement.{statement}
 use Rattle.header.proofs.words.Header.data_bytes.Tie as tie
 

@@ -1,6 +1,6 @@
 -- By the field: 0 picks 1,024, and any other value itself. Assumes nothing.
 use borrow.Author.Needs.{needs}
-use Rattle.header.proofs.Laws.Pick.{decide}
+use Rattle.ground.proofs.Laws.Pick.{decide}
 use Rattle.header.proofs.words.Header.dwords.Statement.{statement}
 use Rattle.header.proofs.words.Header.dwords.Tie as tie
 

@@ -1,6 +1,6 @@
 -- By the kind: the first address word of two, or 0. Assumes nothing.
 use borrow.Author.Needs.{needs}
-use Rattle.header.proofs.Laws.Pick.{decide}
+use Rattle.ground.proofs.Laws.Pick.{decide}
 use Rattle.header.proofs.words.Header.high_word.Statement.{statement}
 use Rattle.header.proofs.words.Header.high_word.Tie as tie
 

@@ -3,7 +3,7 @@ use borrow.Author.Needs.{needs}
 use native.Mathlib.Omega.{arith}
 use Prim.Native.Nat.{_/_, _^_}
 use mathlib.Core.Path.{_≡_}
-use Rattle.header.specs.Field.{field}
+use Rattle.ground.specs.Field.{field}
 use Rattle.header.proofs.words.Header.in_64.Statement.{statement}
 use Rattle.header.proofs.words.Header.in_64.Tie as tie
 

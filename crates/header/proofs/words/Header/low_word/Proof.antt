@@ -1,6 +1,6 @@
 -- By the kind: the second address word of two, or the only one. Assumes nothing.
 use borrow.Author.Needs.{needs}
-use Rattle.header.proofs.Laws.Pick.{decide}
+use Rattle.ground.proofs.Laws.Pick.{decide}
 use Rattle.header.proofs.words.Header.low_word.Statement.{statement}
 use Rattle.header.proofs.words.Header.low_word.Tie as tie
 

@@ -1,6 +1,6 @@
 -- By the address: the test that led here picks the header. Assumes nothing.
 use borrow.Author.Needs.{needs}
-use Rattle.header.proofs.Laws.Pick.{decide}
+use Rattle.ground.proofs.Laws.Pick.{decide}
 use Rattle.header.specs.Rewrite.{readdressed}
 use Rattle.header.proofs.words.Header.readdressed.Statement.{statement}
 use Rattle.header.proofs.words.Header.readdressed.Tie as tie

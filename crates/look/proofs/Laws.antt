@@ -1,0 +1,3 @@
+-- Laws of the look.
+pub mod Look
+pub mod Scan

@@ -1,0 +1,3 @@
+-- What the windows of a partition answer.
+pub mod Look
+pub mod Scan

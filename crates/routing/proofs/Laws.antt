@@ -1,0 +1,4 @@
+-- Laws of the decision.
+pub mod Call
+pub mod Exactly
+pub mod Reached

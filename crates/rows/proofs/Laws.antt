@@ -1,0 +1,3 @@
+-- Laws of a row.
+pub mod Aligned
+pub mod Row

@@ -1,0 +1,2 @@
+-- What a row of the windows means.
+pub mod Row

@@ -1,3 +1,0 @@
--- Laws of what the tables share.
-pub mod Scan
-pub mod Answer

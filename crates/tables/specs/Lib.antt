@@ -1,3 +1,0 @@
--- What all the lent tables share.
-pub mod Scan
-pub mod Answer

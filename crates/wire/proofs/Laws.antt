@@ -1,0 +1,2 @@
+-- Laws of writing.
+pub mod Write

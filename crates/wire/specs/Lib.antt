@@ -1,0 +1,2 @@
+-- Writing a packet.
+pub mod Write
