@@ -1,4 +1,6 @@
 // "Byte count" and lower address of a read, and the completion that answers one which is refused.
+#![tactic(auto)]
+
 ghost use Rattle.std.specs.Prelude.{◌≡◌, ◌<◌, ◌^◌};
 ghost use Rattle.ground.specs.Field.{place};
 ghost use Rattle.count.specs.Count.{

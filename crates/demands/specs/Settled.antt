@@ -1,5 +1,5 @@
 -- The rule that settles it: "a packet passes by an open window and a filled mapping entry, or it stays at home and is logged there".
-use Rattle.std.specs.Prelude.{ℕ, ◌+◌, ◌≤◌, ◌<◌, true, false, ◌≡◌, ◌⊎◌, get_or}
+use Rattle.std.specs.Prelude.{ℕ, ◌+◌, ◌≤◌, ◌<◌, false, ◌≡◌, ◌⊎◌, get_or}
 use Rattle.std.specs.Int.Bits.{bit_or}
 use Rattle.ground.specs.Field.{field}
 use Rattle.header.specs.Fields.{is_poisoned, requester_id, address, completion_requester_id}

@@ -2,56 +2,56 @@
 // `dropped` and its refusal. Words are upper-case hex, other numbers decimal; data words are not printed.
 use crate::hex;
 use header::words::Header;
-use libc::STDOUT_FILENO;
+use std::io;
 use switch::answer::{Outcome, Sent};
 
 // A blank and a number.
-fn print_number(n: u64) {
-    io::write_all(STDOUT_FILENO, b" ");
-    io::print_decimal(STDOUT_FILENO, n);
+fn print_number(rt: &impl Print, n: u64) -> io::Result<()> {
+    print!(rt; " {n}")
 }
 
 // A blank and a word.
-fn print_word(word: u32) {
+fn print_word(rt: &impl Print, word: u32) -> io::Result<()> {
     let text = hex::word(word);
-    io::write_all(STDOUT_FILENO, b" ");
-    io::write_all(STDOUT_FILENO, &text);
+    rt.write_all(b" ")?;
+    rt.write_all(&text)
 }
 
 // The header's own three words, or four.
-fn print_header(h: Header, words: u8) {
-    print_word(h.w0);
-    print_word(h.w1);
-    print_word(h.w2);
+fn print_header(rt: &impl Print, h: Header, words: u8) -> io::Result<()> {
+    print_word(rt, h.w0)?;
+    print_word(rt, h.w1)?;
+    print_word(rt, h.w2)?;
     if words == 4 {
-        print_word(h.w3);
+        print_word(rt, h.w3)?;
     }
+    Ok(())
 }
 
 // The length of what came out, and its header.
-fn print_sent(sent: Sent) {
+fn print_sent(rt: &impl Print, sent: Sent) -> io::Result<()> {
     let h = sent.header;
-    print_number(sent.length as u64);
-    print_header(h, sent.words);
+    print_number(rt, sent.length as u64)?;
+    print_header(rt, h, sent.words)
 }
 
 // The line.
-pub(crate) fn print(outcome: Outcome) {
+pub(crate) fn print(rt: &impl Print, outcome: Outcome) -> io::Result<()> {
     match outcome {
         Outcome::Crossed(sent) => {
-            io::write_all(STDOUT_FILENO, b"crossed");
-            print_number(sent.partition as u64);
-            print_sent(sent);
+            rt.write_all(b"crossed")?;
+            print_number(rt, sent.partition as u64)?;
+            print_sent(rt, sent)?;
         }
         Outcome::Answered(refusal, sent) => {
-            io::write_all(STDOUT_FILENO, b"answered");
-            print_number(refusal.number() as u64);
-            print_sent(sent);
+            rt.write_all(b"answered")?;
+            print_number(rt, refusal.number() as u64)?;
+            print_sent(rt, sent)?;
         }
         Outcome::Dropped(refusal) => {
-            io::write_all(STDOUT_FILENO, b"dropped");
-            print_number(refusal.number() as u64);
+            rt.write_all(b"dropped")?;
+            print_number(rt, refusal.number() as u64)?;
         }
     }
-    io::write_all(STDOUT_FILENO, b"\n");
+    rt.write_all(b"\n")
 }

@@ -1,12 +1,13 @@
 // One packet over the exam sheet's tables, with empty logs.
-ghost use Rattle.std.specs.Prelude.{◌≡◌};
+ghost use Rattle.std.specs.Prelude.{◌≡◌, ◌≤◌, length};
 ghost use Rattle.switch.specs.Answer.{on_paper};
 ghost use Rattle.switch.specs.After.{answer_of, out_of};
 ghost use Rattle.sheet.specs.Cases.{over_sheet};
 ghost use Rattle.desk.specs.Passing.{OutOfInput};
 
 use crate::line;
-use libc::{STDIN_FILENO, STDOUT_FILENO};
+use std::io;
+use std::io::Read;
 use switch::answer::Outcome;
 use switch::pass;
 
@@ -21,23 +22,44 @@ pub fn over_sheet(p: u32, packet: &[u8], out: &mut [u8]) -> Outcome
     pass::pass(p, packet, &windows, &mut numbers, &mut logs, out)
 }
 
+// Reads until the buffer is full, the input ends or a read fails, and returns how many bytes it put at the start of the buffer.
+fn read_full(input: &mut impl Read, buf: &mut [u8]) -> usize
+    ensures { result ≤ length buf.new }
+{
+    let mut done = 0;
+    while done < buf.len() {
+        let n = input.read(&mut buf[done..]).unwrap_or(0);
+        if n == 0 {
+            break;
+        }
+        done += n;
+    }
+    done
+}
+
 // Whether standard input failed after `n` bytes: where there was room for more, one further read tells an end from a failure.
-fn failed(n: usize, room: usize) -> bool {
+fn failed(input: &mut impl Read, n: usize, room: usize) -> bool {
     let mut one = [0u8; 1];
     if n < room {
-        return libc::read(STDIN_FILENO, &mut one) < 0;
+        return input.read(&mut one).is_err();
     }
     false
 }
 
-// Reads one packet from standard input, cut where the buffer ends, passes it from `p`, and prints the line.
-pub fn pass_input(p: u32, packet: &mut [u8], out: &mut [u8])
+// Reads one packet from standard input, cut where the buffer ends, passes it from `p`, and prints the line. What is said of Out
+// holds also where the line could not be printed.
+pub fn pass_input(
+    rt: &(impl Input + Print),
+    p: u32,
+    packet: &mut [u8],
+    out: &mut [u8],
+) -> io::Result<()>
     ensures { OutOfInput p packet.new out.old out.new }
 {
-    let n = io::read_full(STDIN_FILENO, packet);
-    if failed(n, packet.len()) {
-        io::write_all(STDOUT_FILENO, b"no packet: standard input cannot be read\n");
-        return;
+    let mut input = rt.reader();
+    let n = read_full(&mut input, packet);
+    if failed(&mut input, n, packet.len()) {
+        return rt.write_all(b"no packet: standard input cannot be read\n");
     }
-    line::print(over_sheet(p, &packet[..n], out));
+    line::print(rt, over_sheet(p, &packet[..n], out))
 }

@@ -10,7 +10,7 @@ ghost use Rattle.header.specs.Kind.{
   header_bytes,
 };
 
-#[derive(Drop)]
+#[derive(Clone, Copy)]
 pub struct Kind {
     pub byte: u8,
 }

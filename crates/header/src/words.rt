@@ -5,7 +5,7 @@ ghost use Rattle.header.specs.Words.{byte_at, joined, word_at, fourth_word, head
 use crate::kind::Kind;
 
 // The header words; a fourth word that the header lacks is 0. These are also the words that a log keeps.
-#[derive(Drop)]
+#[derive(Clone, Copy)]
 pub struct Header {
     pub w0: u32,
     pub w1: u32,

@@ -1,4 +1,6 @@
 // The logs, a row of six words a partition: status, first error, four header words.
+#![tactic(auto)]
+
 ghost use Rattle.std.specs.Prelude.{◌≡◌, ◌<◌, ◌^◌};
 ghost use Rattle.logs.specs.Logs.{bit_number, bit_mask, noted, recorded, clear_number, clear_after};
 
@@ -7,7 +9,7 @@ use ground::table::{DONE, WRONG_CALL};
 use header::words::Header;
 
 // The bits of a status word that the switch sets.
-#[derive(Drop)]
+#[derive(Clone, Copy)]
 pub enum Bit {
     Poisoned,
     UnexpectedCompletion,
@@ -42,7 +44,7 @@ impl Bit {
 }
 
 // The table, and its sizes.
-#[derive(Drop)]
+#[derive(Clone, Copy)]
 pub struct Logs {}
 
 impl Logs {

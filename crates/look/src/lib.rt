@@ -1,4 +1,6 @@
 // The look: the one question that passing asks of a partition's rows, and what they answer.
+#![tactic(auto)]
+
 ghost use Rattle.std.specs.Prelude.{◌≡◌, Bool, List, ℕ, ◌+◌, ◌-◌, ◌≤◌, ◌<◌, ◌^◌};
 ghost use Rattle.look.specs.declared.Question.TheVariants.{Address, Return};
 ghost use Rattle.look.specs.Look.{translated, look_up, way_back, look_of};
@@ -8,7 +10,7 @@ use rows::Window;
 
 // What a way makes of a packet: the partition that it comes out in, its address there (0 of a completion, which has none), and
 // whether marked packets may pass by it.
-#[derive(Drop)]
+#[derive(Clone, Copy)]
 pub struct Translation {
     pub destination: u8,
     pub address: u64,
@@ -17,7 +19,7 @@ pub struct Translation {
 
 // What is asked of a partition's rows: nothing; what becomes of an address; or whether packets so marked may come back from
 // another partition.
-#[derive(Drop)]
+#[derive(Clone, Copy)]
 pub enum Question {
     Silent,
     Address(u64),
@@ -25,21 +27,21 @@ pub enum Question {
 }
 
 // What they answer: there is no way, or there is this one.
-#[derive(Drop)]
+#[derive(Clone, Copy)]
 pub enum Look {
     Shut,
     Open(Translation),
 }
 
 // How far a row answers a question: wholly, or but for the mark.
-#[derive(Drop)]
+#[derive(Clone, Copy)]
 pub struct Fit {
     pub whole: bool,
     pub half: bool,
 }
 
 // What a scan has seen: the lowest slot that answers wholly, 16 where none does; and whether a slot below answers but for the mark.
-#[derive(Drop)]
+#[derive(Clone, Copy)]
 pub struct Seen {
     pub slot: u8,
     pub half: bool,

@@ -23,21 +23,21 @@ use ground::table::{DONE, WRONG_CALL};
 pub const REPETITION: u32 = 12;
 
 // What a mapping word says.
-#[derive(Drop)]
+#[derive(Clone, Copy)]
 pub enum Entry {
     Free,
     Held(u16),
 }
 
 // Where a requester ID is held: nowhere, or at an index among all entries.
-#[derive(Drop)]
+#[derive(Clone, Copy)]
 pub enum Found {
     Nothing,
     At(u16),
 }
 
 // The table, and its sizes.
-#[derive(Drop)]
+#[derive(Clone, Copy)]
 pub struct Numbers {}
 
 impl Numbers {

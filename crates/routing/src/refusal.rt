@@ -5,7 +5,7 @@ ghost use Rattle.routing.specs.Refusal.{refusal_number, answers_reads};
 use tlp::form::Rule;
 
 // The refusals that a packet can get, one for each of the list's numbers: those of the packet layer as it names them.
-#[derive(Drop)]
+#[derive(Clone, Copy)]
 pub enum Refusal {
     WrongCall,
     SenderInactive,

@@ -31,7 +31,7 @@ use tlp::form;
 use tlp::form::{Packet, Rule};
 
 // The shortest Out: 16 bytes of header and 4,096 of data.
-#[derive(Drop)]
+#[derive(Clone, Copy)]
 pub struct Out {}
 
 impl Out {
@@ -39,7 +39,7 @@ impl Out {
 }
 
 // The gate, which every call comes to first: closed, for this refusal, or passed.
-#[derive(Drop)]
+#[derive(Clone, Copy)]
 pub enum Gate {
     Closed(Refusal),
     Passed,
@@ -47,7 +47,7 @@ pub enum Gate {
 
 // What packet and numbers say before the windows are asked: this rule of form is broken; a completion is for nobody; a request would
 // go over; or a completion back, under this ID, to the owner of the entry of this index.
-#[derive(Drop)]
+#[derive(Clone, Copy)]
 pub enum Plan {
     Faulty(Rule),
     Unexpected,
@@ -57,7 +57,7 @@ pub enum Plan {
 
 // The way that a packet goes: stopped, for this refusal; over, by this translation and the entry of this index; or back, under this
 // ID and to the owner of the entry of this index.
-#[derive(Drop)]
+#[derive(Clone, Copy)]
 pub enum Way {
     Stop(Refusal),
     Goes(Translation, u16),

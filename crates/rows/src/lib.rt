@@ -1,4 +1,6 @@
 // "Windows": a row by value, its fields, and when it is in force.
+#![tactic(auto)]
+
 ghost use Rattle.std.specs.Prelude.{◌≡◌, ◌<◌};
 ghost use Rattle.rows.specs.Row.{
   row_of,
@@ -19,7 +21,7 @@ ghost use Rattle.rows.specs.Row.{
 };
 
 // A row: "each row is base, target, control".
-#[derive(Drop)]
+#[derive(Clone, Copy)]
 pub struct Window {
     pub base: u64,
     pub target: u64,

@@ -1,9 +1,12 @@
 // As bench, from any sender: the first argument is the partition, standard input the packet.
+#![tactic(auto)]
+
 use desk::passing;
-use libc::STDOUT_FILENO;
+use std::env::{Env, FillError};
+use std::io;
 
 // A sender, or no number of one or two digits.
-#[derive(Drop)]
+#[derive(Clone, Copy)]
 enum Sender {
     From(u32),
     Wrong,
@@ -39,30 +42,31 @@ fn parsed(text: [u8; 3], n: usize) -> Sender {
     Sender::Wrong
 }
 
+// The one word that the program was started with, as a sender.
+fn named_sender(rt: &impl Env) -> Sender {
+    let mut text = [0u8; 3];
+    let n = rt.arg(1, &mut text).unwrap_or(0);
+    match rt.arg(2, &mut [0u8; 3]) {
+        Err(FillError::NotPresent) => parsed(text, n),
+        _ => Sender::Wrong,
+    }
+}
+
 // Passes standard input from `p`.
-fn send(p: u32) {
+fn send(rt: &(impl Input + Print), p: u32) -> io::Result<()> {
     let mut packet = [0u8; 4113];
     let mut out = [0u8; 4112];
-    passing::pass_input(p, &mut packet, &mut out);
+    passing::pass_input(rt, p, &mut packet, &mut out)
 }
 
 // Says what is wanted.
-fn refuse() {
-    io::write_all(
-        STDOUT_FILENO,
-        b"send: one word is wanted, the sender, as one or two decimal digits\n",
-    );
+fn refuse(rt: &impl Print) -> io::Result<()> {
+    rt.write_all(b"send: one word is wanted, the sender, as one or two decimal digits\n")
 }
 
-fn main() {
-    let mut text = [0u8; 3];
-    let n = os::arg(1, &mut text);
-    if os::arg_count() != 2 {
-        refuse();
-        return;
-    }
-    match parsed(text, n) {
-        Sender::From(p) => send(p),
-        Sender::Wrong => refuse(),
+fn main(rt: HostRuntime) -> io::Result<()> {
+    match named_sender(&rt) {
+        Sender::From(p) => send(&rt, p),
+        Sender::Wrong => refuse(&rt),
     }
 }

@@ -1,5 +1,5 @@
 -- The sheet's cases: who sends what, what comes back, what is written, and what the sender's log row holds then.
-use Rattle.std.specs.Prelude.{ℕ, ◌+◌, ◌-◌, ◌*◌, List, [], ◌∷◌, ◌++◌, replicate, take}
+use Rattle.std.specs.Prelude.{ℕ, ◌-◌, ◌*◌, List, [], ◌∷◌, ◌++◌, replicate, take}
 use Rattle.header.specs.Words.{word_bytes}
 use Rattle.header.specs.declared.words.Header.{Header}
 use Rattle.routing.specs.Call.{lent, Call, call_of}

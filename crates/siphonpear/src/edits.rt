@@ -10,8 +10,7 @@ use numbers::{buses, entries};
 use windows::edit;
 
 // Sets a window, which is then enabled; marked packets may pass by it where `marked` is not 0.
-#[unsafe(no_mangle)]
-pub extern "C" fn siphon_set_window(
+pub fn siphon_set_window(
     p: u32,
     slot: u32,
     base: u64,
@@ -28,8 +27,7 @@ pub extern "C" fn siphon_set_window(
 }
 
 // Empties a window: three zeros.
-#[unsafe(no_mangle)]
-pub extern "C" fn siphon_empty_window(p: u32, slot: u32, windows: &mut [u64]) -> u32
+pub fn siphon_empty_window(p: u32, slot: u32, windows: &mut [u64]) -> u32
     ensures value { result ≡ empty_window_number p slot windows.old }
     ensures windows_after { windows.new ≡ empty_window_after p slot windows.old }
 {
@@ -37,8 +35,7 @@ pub extern "C" fn siphon_empty_window(p: u32, slot: u32, windows: &mut [u64]) ->
 }
 
 // Sets an entry: slot `slot` of partition `p` holds this ID from now on.
-#[unsafe(no_mangle)]
-pub extern "C" fn siphon_set_entry(p: u32, slot: u32, id: u16, numbers: &mut [u32]) -> u32
+pub fn siphon_set_entry(p: u32, slot: u32, id: u16, numbers: &mut [u32]) -> u32
     ensures value { result ≡ set_entry_number p slot id numbers.old }
     ensures numbers_after { numbers.new ≡ set_entry_after p slot id numbers.old }
 {
@@ -46,8 +43,7 @@ pub extern "C" fn siphon_set_entry(p: u32, slot: u32, id: u16, numbers: &mut [u3
 }
 
 // Frees an entry: its word becomes 0.
-#[unsafe(no_mangle)]
-pub extern "C" fn siphon_free_entry(p: u32, slot: u32, numbers: &mut [u32]) -> u32
+pub fn siphon_free_entry(p: u32, slot: u32, numbers: &mut [u32]) -> u32
     ensures value { result ≡ free_entry_number p slot numbers.old }
     ensures numbers_after { numbers.new ≡ free_entry_after p slot numbers.old }
 {
@@ -55,8 +51,7 @@ pub extern "C" fn siphon_free_entry(p: u32, slot: u32, numbers: &mut [u32]) -> u
 }
 
 // Sets a partition's bus.
-#[unsafe(no_mangle)]
-pub extern "C" fn siphon_set_bus(p: u32, bus: u32, numbers: &mut [u32]) -> u32
+pub fn siphon_set_bus(p: u32, bus: u32, numbers: &mut [u32]) -> u32
     ensures value { result ≡ set_bus_number p bus numbers.old }
     ensures numbers_after { numbers.new ≡ set_bus_after p bus numbers.old }
 {
@@ -64,8 +59,7 @@ pub extern "C" fn siphon_set_bus(p: u32, bus: u32, numbers: &mut [u32]) -> u32
 }
 
 // Makes a partition inactive: its bus word becomes 256.
-#[unsafe(no_mangle)]
-pub extern "C" fn siphon_make_inactive(p: u32, numbers: &mut [u32]) -> u32
+pub fn siphon_make_inactive(p: u32, numbers: &mut [u32]) -> u32
     ensures value { result ≡ make_inactive_number p numbers.old }
     ensures numbers_after { numbers.new ≡ make_inactive_after p numbers.old }
 {
@@ -73,8 +67,7 @@ pub extern "C" fn siphon_make_inactive(p: u32, numbers: &mut [u32]) -> u32
 }
 
 // Clears in the status of `p` the bits given as ones.
-#[unsafe(no_mangle)]
-pub extern "C" fn siphon_clear_log(p: u32, ones: u32, logs: &mut [u32]) -> u32
+pub fn siphon_clear_log(p: u32, ones: u32, logs: &mut [u32]) -> u32
     ensures value { result ≡ clear_number p logs.old }
     ensures logs_after { logs.new ≡ clear_after p ones logs.old }
 {

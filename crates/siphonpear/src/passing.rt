@@ -72,8 +72,7 @@ fn put_answer(outcome: Outcome, answer: &mut [u32])
 }
 
 // Passes a packet from partition `p`. A buffer for the answer that is too short is refused, by 1, before all else.
-#[unsafe(no_mangle)]
-pub extern "C" fn siphon_pass(
+pub fn siphon_pass(
     p: u32,
     packet: &[u8],
     windows: &[u64],

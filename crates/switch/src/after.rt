@@ -12,7 +12,7 @@ use routing::refusal::Refusal;
 use tlp::form::Rule;
 
 // Whether a refusal is logged, and under which bit.
-#[derive(Drop)]
+#[derive(Clone, Copy)]
 pub enum Logged {
     No,
     Under(Bit),

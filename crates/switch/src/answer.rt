@@ -12,7 +12,7 @@ use routing::refusal::Refusal;
 use routing::rule::Way;
 
 // The record: the header words, how many the header has, the partition that the packet comes out in, and its length.
-#[derive(Drop)]
+#[derive(Clone, Copy)]
 pub struct Sent {
     pub header: Header,
     pub words: u8,
@@ -21,7 +21,7 @@ pub struct Sent {
 }
 
 // "The answer is one of: crossed, answered, dropped".
-#[derive(Drop)]
+#[derive(Clone, Copy)]
 pub enum Outcome {
     Crossed(Sent),
     Answered(Refusal, Sent),

@@ -20,7 +20,7 @@ ghost use Rattle.tlp.specs.Form.{
 use header::words::Header;
 
 // The rules of form, in the order in which they are looked at.
-#[derive(Drop)]
+#[derive(Clone, Copy)]
 pub enum Rule {
     TooShort,
     NotCarried,
@@ -32,7 +32,7 @@ pub enum Rule {
 }
 
 // What reading finds: a request (a read or a write) or a completion, with its header words, or the first rule broken.
-#[derive(Drop)]
+#[derive(Clone, Copy)]
 pub enum Packet {
     Request(Header),
     Completion(Header),

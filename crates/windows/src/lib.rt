@@ -1,2 +1,4 @@
 // The calls that edit the table of windows: sixteen rows a partition, each a base, a target and a control word.
+#![tactic(auto)]
+
 pub mod edit; // set a window, empty it

@@ -1,4 +1,6 @@
 // Writing header and data over the start of a buffer.
+#![tactic(auto)]
+
 ghost use Rattle.std.specs.Prelude.{◌≡◌, ◌+◌, ◌≤◌, length, []};
 ghost use Rattle.ground.specs.Pick.{pick};
 ghost use Rattle.header.specs.Kind.{has_four_words, header_bytes};

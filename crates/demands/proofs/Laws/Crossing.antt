@@ -1,8 +1,8 @@
 -- What a packet that crosses was: a request that went over by a window and an entry, or a completion that came back to the owner of one;
 -- with what holds at its way. A refusal is no crossing, and the rest is the rule's one walk. Assumes nothing.
-use Prim.Native.Nat.{ℕ, ◌*◌, ◌+◌, ◌/◌, ◌%◌, ◌≤◌, ◌<◌}
-use mathlib.Core.Path.{◌≡◌, refl, sym, ◌∙◌}
-use mathlib.Core.Bool.{true, false, ◌&&◌}
+use Prim.Native.Nat.{ℕ, ◌*◌, ◌+◌, ◌/◌, ◌<◌}
+use mathlib.Core.Path.{◌≡◌, refl}
+use mathlib.Core.Bool.{true, ◌&&◌}
 use mathlib.Core.Logic.{◌⊎◌, inl, inr}
 use native.Mathlib.Omega.{arith}
 use lib.ListN.{length}
@@ -21,7 +21,7 @@ use Rattle.routing.specs.declared.rule.Way.{Way}
 use Rattle.routing.specs.declared.rule.Way.TheVariants.{Stop, Goes, Comes}
 use Rattle.routing.specs.Call.{Call, head_of, asked}
 use Rattle.routing.specs.Rule.{bus_id, mapped_id, pass_way}
-use Rattle.routing.specs.Why.{Entered, Named, Passable, Holds}
+use Rattle.routing.specs.Why.{Entered, Named, Holds}
 use Rattle.switch.specs.Answer.{Answer, crossed, refused, sent_of, way_answer}
 use Rattle.routing.specs.Refusal.{answers_reads}
 use Rattle.switch.specs.After.{answer_of}

@@ -14,7 +14,6 @@ use Rattle.ground.specs.Scan.{first, some}
 use Rattle.header.specs.Words.{word_at, header_of}
 use Rattle.header.specs.Fields.{data_of}
 use Rattle.header.specs.Rewrite.{readdressed}
-use Rattle.header.specs.declared.words.Header.{Header}
 use Rattle.tlp.specs.Form.{request_form, form_of}
 use Rattle.count.specs.Count.{byte_count_of}
 use Rattle.wire.specs.Write.{header_list, over}
@@ -25,7 +24,6 @@ use Rattle.numbers.specs.Entries.{look_at}
 use Rattle.numbers.specs.Buses.{is_active}
 use Rattle.logs.specs.Logs.{noted, recorded}
 use Rattle.routing.specs.declared.refusal.Refusal.TheVariants.{WrongCall, SenderInactive}
-use Rattle.routing.specs.declared.rule.Gate.{Gate}
 use Rattle.routing.specs.declared.rule.Gate.TheVariants.{Closed, Passed}
 use Rattle.routing.specs.Call.{Tables, lent, Asked}
 use Rattle.routing.specs.Rule.{gate_of, owner_plan, completion_plan, to_destination, through_mark, back_mark, carried_way, by_gate}

@@ -1,0 +1,10 @@
+-- What was read lies within the buffer, and each turn that goes on reads at least a byte more. Assumes nothing.
+use Prim.Native.Nat.{◌-◌, ◌≤◌}
+use lib.ListN.{length}
+use Rattle.desk.proofs.passing.read_full.Given as goal
+
+abbrev pub invariant-loop-done : goal.invariant-loop-done
+invariant-loop-done g l = l.done ≤ length l.buf
+
+abbrev pub decreases-loop-done : goal.decreases-loop-done
+decreases-loop-done g l = length l.buf - l.done
