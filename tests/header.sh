@@ -20,7 +20,7 @@ calls_of_source() {
             sub(/\]$/, "", inner)
             return (type ~ /^&mut / ? "" : "const ") c_type(inner) " *" name ", size_t " name "_length"
         }
-        /#\[no_mangle\]/ { text = ""; inside = 1; next }
+        /#\[unsafe\(no_mangle\)\]/ { text = ""; inside = 1; next }
         inside { text = text " " $0 }
         inside && /-> / {
             inside = 0
@@ -144,7 +144,7 @@ agree() {
     diff "$work/header-sorted" "$work/source" >"$work/told"
 }
 
-calls_of_source crates/siphonpear/src/*.rt >"$work/calls"
+calls_of_source crates/siphonpear_c/src/*.rt >"$work/calls"
 {
     cat "$work/calls"
     switch_of_calls <"$work/calls"
