@@ -17,10 +17,10 @@ builds() {
     rm "$work/program"
 }
 
-# both FILE.c WANTED: by the toolchain's compiler, and on x86-64 by the system's too
+# both FILE.c WANTED: by the toolchain's compiler, and by the system's too
 both() {
     builds kit "by the toolchain's compiler" "$1" "$2"
-    [ "$(uname -m)" != x86_64 ] || builds x86_64 "by the system's compiler" "$1" "$2"
+    builds x86_64 "by the system's compiler" "$1" "$2"
 }
 
 both examples/c/lesson.c examples/c/lesson.stdout
@@ -42,7 +42,7 @@ tools/x86-64 "$work/a folder/one"
 expect 'a call with nothing lent is refused by 1' [ $? -eq 1 ]
 
 # as_cpp WORD..: clang for C++, with these words
-kit=$(dirname "$(dirname "$(rt doc)")")/on/$(uname -m)
+kit=$(dirname "$(rt doc)")
 as_cpp() {
     "$kit/toolchain/bin/clang" --target=x86_64-unknown-linux-gnu -std=c++11 -fPIC -Wall -Wextra -Werror -pedantic -nostdinc \
         -isystem tools/c-headers -I include "$@"
@@ -85,6 +85,18 @@ expect 'by the name of what is wrong' grep -q missing "$work/log"
 tools/link-c "$work/none" 2>"$work/log"
 expect 'no file: status 2' [ $? -eq 2 ]
 expect 'no file: a message' grep -qF 'which files?' "$work/log"
+mkdir "$work/arm"
+printf '#!/bin/sh\necho aarch64\n' >"$work/arm/uname"
+chmod +x "$work/arm/uname"
+for way in x86_64 kit; do
+    PATH=$work/arm:$PATH SIPHON_LINK=$way tools/link-c "$work/none" examples/c/lesson.c 2>"$work/log"
+    expect "another machine by $way: status 2" [ $? -eq 2 ]
+    expect "another machine by $way: named" grep -qF 'on this machine, aarch64' "$work/log"
+    expect "another machine by $way: nothing is made" [ ! -e "$work/none" ]
+done
+SIPHON_LINK=else tools/link-c "$work/none" examples/c/lesson.c 2>"$work/log"
+expect 'another way to link: status 2' [ $? -eq 2 ]
+expect 'another way to link: named' grep -qF 'and not else' "$work/log"
 mkdir "$work/bin"
 for tool in sh dirname sed find id uname; do
     ln -s "$(command -v "$tool")" "$work/bin/$tool"

@@ -1,6 +1,6 @@
 #!/bin/sh
-# The exam sheet through the programs that the gate has just built, packets at the edges of a buffer, and ./siphon run: its
-# words, its messages, and that it builds what is missing and tells a wrong line.
+# The exam sheet through the programs, packets at the edges of a buffer, and ./siphon run: its words, its messages, and that it builds
+# what is missing or older than a source, and tells a wrong line.
 set -u
 cd "$(dirname "$0")/.." || exit 2
 . tests/lib.sh
@@ -122,14 +122,36 @@ cp target/bin/bench target/bin/send "$repo/target/bin/"
 expect 'a line that is not the paper'"'"'s ends with status 1' [ $? -eq 1 ]
 expect 'and is told' grep -q '^H .* NO, it has: dropped 6$' "$work/out"
 expect 'it alone' [ "$(grep -c ' yes' "$work/out")" -eq 16 ]
+
+# rt_does LINE..: in that repository rt is a stand-in for `rt run` in a crate's folder: what it says is on standard error, what the
+# program that it runs says on standard output, and it does this
+rt_does() {
+    printf '%s\n' '#!/bin/sh' '[ "$*" = run ] || exit 2' 'echo "building ${PWD##*/}" >&2' 'echo dropped 31' "$@" >"$repo/bin/rt"
+    chmod +x "$repo/bin/rt"
+}
+
+# run_there WORDS..: ./siphon run in it
+run_there() {
+    (cd "$repo" && PATH=$repo/bin:$PATH ./siphon run "$@" >"$work/out" 2>"$work/err")
+    status=$?
+}
+
 rm "$repo/target/bin/send"
-printf '#!/bin/sh\necho building\nexit 1\n' >"$repo/bin/rt"
-chmod +x "$repo/bin/rt"
-(cd "$repo" && PATH=$repo/bin:$PATH ./siphon run A >"$work/out" 2>"$work/err")
-expect 'a build that fails ends with status 1' [ $? -eq 1 ]
-expect 'its progress is on standard error' grep -q '^building$' "$work/err"
+mkdir -p "$repo/crates/bench" "$repo/crates/send/src"
+rt_does 'exit 1'
+run_there A
+expect 'a build that fails ends with status 1' [ "$status" -eq 1 ]
+expect 'its progress is on standard error' grep -q '^building send$' "$work/err"
 expect 'with nothing on standard output' [ ! -s "$work/out" ]
-printf '#!/bin/sh\ncp "%s"/target/bin/send target/bin/send\n' "$PWD" >"$repo/bin/rt"
-(cd "$repo" && PATH=$repo/bin:$PATH ./siphon run B >"$work/out" 2>"$work/err")
+rt_does 'mkdir -p out' "cp '$PWD/target/bin/send' out/send"
+run_there B
 expect 'what is missing is built' [ "$(cat "$work/out")" = 'crossed 1 16 4A000001 02000004 03000510' ]
+expect 'and nothing else' [ "$(grep '^building ' "$work/err")" = 'building send' ]
+rt_does 'exit 1'
+touch "$repo/crates/send/out/kept"
+run_there B
+expect 'and stands, whatever rt keeps beside it' [ "$(cat "$work/out")" = 'crossed 1 16 4A000001 02000004 03000510' ]
+touch "$repo/crates/send/src/main.rt"
+run_there B
+expect 'a program that is older than a source is built again' grep -q '^building bench$' "$work/err"
 finish

@@ -1,6 +1,6 @@
 #!/bin/sh
-# The script that runs a built program on either kind of machine, on the program that the gate has just built; the words
-# that it hands to the emulator on Arm; and its refusals.
+# The script that runs a built program, on bench and on a stand-in that prints the words that it is handed; and its refusals, of
+# other machines too.
 set -u
 cd "$(dirname "$0")/.." || exit 2
 . tests/lib.sh
@@ -19,6 +19,7 @@ run() {
     status=$?
 }
 
+expect 'a program is built' tools/build bench
 run here target/bin/bench <crates/bench/stdin
 expect 'a program runs' [ "$status" -eq 0 ]
 expect 'and writes what it must' cmp -s "$work/out" crates/bench/stdout
@@ -30,14 +31,15 @@ expect 'and named' grep -q 'no program target/bin/nothing' "$work/err"
 run abacus target/bin/bench
 expect 'an unknown machine is refused' [ "$status" -eq 2 ]
 expect 'and named too' grep -q abacus "$work/err"
+run aarch64 target/bin/bench one two <crates/bench/stdin
+expect 'Arm is refused' [ "$status" -eq 2 ]
+expect 'and named as well' grep -q 'on this machine, aarch64$' "$work/err"
+expect 'and nothing is run there' [ ! -s "$work/out" ]
 
-# Arm, by stand-ins for the toolchain: the emulator is handed the loader, its libraries, the program and its words
-kit=$work/kit
-mkdir -p "$kit/docs" "$kit/on/aarch64/toolchain/bin"
-printf '#!/bin/sh\necho %s/docs/guide.md\n' "$kit" >"$work/bin/rt"
-printf '#!/bin/sh\necho "$*"\n' >"$kit/on/aarch64/toolchain/bin/qemu-x86_64"
-chmod +x "$work/bin/rt" "$kit/on/aarch64/toolchain/bin/qemu-x86_64"
-lib=$kit/on/aarch64/toolchain/lib
-run aarch64 target/bin/bench one two
-expect 'on Arm the emulator is called' [ "$(cat "$work/out")" = "$lib/ld-linux-x86-64.so.2 --library-path $lib target/bin/bench one two" ]
+# what a program is handed
+printf '#!/bin/sh\nprintf "%%s\\n" "$0" "$@"\n' >"$work/words"
+chmod +x "$work/words"
+run x86_64 "$work/words" one 'two three' ''
+printf '%s\n' "$work/words" one 'two three' '' >"$work/wanted"
+expect 'a program is handed its words' cmp -s "$work/out" "$work/wanted"
 finish
