@@ -69,7 +69,7 @@ gate red '3 passed, 1 failed' "$ok; $done" '7 passed, 0 failed (ground and the c
 gate red '7 passed, 1 failed' "$ok; $done" '7 passed, 0 failed' 0 'nothing' 0
 gate red '7 passed, 1 failed' "$ok; $done" '7 passed, 0 failed' 0 '0 passed, 0 failed' 0
 
-# what rt ci says of must-fail edits that it could not apply or read: it ends well, and the gate does not
+# what rt ci says of must-fail edits that cannot be applied, compiled or read: it ends well, and the gate does not
 gate green '10 passed, 0 failed' "$ok, 0 bad; $done" '7 passed, 0 failed' 0 '3 passed, 0 failed' 0
 gate red '10 passed, 2 failed' "$ok, 2 bad; $done" '7 passed, 0 failed' 0 '3 passed, 0 failed' 0
 gate green '10 passed, 0 failed' "$ok, 3 of them only by a limit; $done" '7 passed, 0 failed' 0 '3 passed, 0 failed' 0
