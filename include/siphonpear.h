@@ -18,8 +18,8 @@
  *   - No two buffers of one call overlap: the packet may not lie inside Out.
  *   - Nobody else changes a buffer while a call runs.
  *
- * Link with libsiphonpear.a, which `rt staticlib siphonpear` writes into target/staticlib/, for x86-64. It keeps no data of its
- * own, allocates nothing, and needs nothing of a C library but, at most, memcpy. tools/link-c compiles and links, and
+ * Link with libsiphonpear.a, which tools/archive builds and puts into target/staticlib/, for x86-64. It keeps no data of its own,
+ * allocates nothing, and needs nothing of a C library but, at most, memcpy. tools/link-c compiles and links, and
  * examples/c/lesson.c is an example.
  */
 #ifndef SIPHONPEAR_H
