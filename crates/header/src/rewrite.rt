@@ -62,6 +62,7 @@ impl Header {
     }
 
     // A request with another address, in a 64-bit header exactly if that is 2^32 or more.
+    #[tactic(auto, using(ground::proofs::Laws::Pick::decide), unfolding(crate::specs::Rewrite::readdressed))]
     pub fn readdressed(self, a: u64) -> Header
         ensures { result ≡ readdressed self a }
     {

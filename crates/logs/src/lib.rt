@@ -66,6 +66,7 @@ fn note(row: usize, bit: Bit, h: Header, logs: &mut [u32])
 }
 
 // Records an error in the row of `p`: its first error and header words only if the status was 0, then the bit.
+#[tactic(auto, using(ground::proofs::Laws::Pick::decide), unfolding(crate::specs::Logs::recorded))]
 pub fn record(p: u8, bit: Bit, h: Header, logs: &mut [u32])
     ensures { logs.new ≡ recorded p bit h logs.old }
 {
