@@ -9,9 +9,9 @@ mkdir -p "$repo/tools" "$repo/bin" "$repo/crates/low/src" "$repo/crates/low/spec
 cp tools/archive "$repo/tools/"
 printf '%s\n' 'low: # below' 'siphonpear_c staticlib: low # for C' 'beside: low' >"$repo/crates.txt"
 
-# rt_does LINE..: rt is a stand-in for `rt lib` in crates/siphonpear_c, and does this
+# rt_does LINE..: rt is a stand-in for `rt lib --cpu x86-64` in crates/siphonpear_c, and does this
 rt_does() {
-    printf '%s\n' '#!/bin/sh' '[ "$*" = lib ] && [ "${PWD##*/}" = siphonpear_c ] || exit 2' 'echo building' "$@" >"$repo/bin/rt"
+    printf '%s\n' '#!/bin/sh' '[ "$*" = "lib --cpu x86-64" ] && [ "${PWD##*/}" = siphonpear_c ] || exit 2' 'echo building' "$@" >"$repo/bin/rt"
     chmod +x "$repo/bin/rt"
 }
 

@@ -126,7 +126,7 @@ expect 'it alone' [ "$(grep -c ' yes' "$work/out")" -eq 16 ]
 # rt_does LINE..: in that repository rt is a stand-in for `rt run` in a crate's folder: what it says is on standard error, what the
 # program that it runs says on standard output, and it does this
 rt_does() {
-    printf '%s\n' '#!/bin/sh' '[ "$*" = run ] || exit 2' 'echo "building ${PWD##*/}" >&2' 'echo dropped 31' "$@" >"$repo/bin/rt"
+    printf '%s\n' '#!/bin/sh' '[ "$*" = "run --cpu x86-64" ] || exit 2' 'echo "building ${PWD##*/}" >&2' 'echo dropped 31' "$@" >"$repo/bin/rt"
     chmod +x "$repo/bin/rt"
 }
 

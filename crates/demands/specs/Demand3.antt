@@ -50,7 +50,7 @@ NoConfusion =
     (a b : Call) (x y : Sent) → Passed a x → Passed b y → x.partition ≡ y.partition → SameEntries a b
     → number_out a x ≡ number_out b y → tag_out a x ≡ tag_out b y → OneSender a b
 
--- "a well_formed .. completion of a carried kind, sent from there with that number and tag": 1, 4 and, R-4, 31 to 36
+-- "a well-formed .. completion of a carried kind, sent from there with that number and tag": 1, 4 and, R-4, 31 to 36
 -- are not given. "Unpoisoned" or, by R-3, marked
 pub record Completes (a : Call) (x : Sent) (c : Call) : Type 0 where
   pub lent : Lent c

@@ -46,7 +46,7 @@ pub record FirstBroken (n : ℕ) (h : Header) (r : Rule) : Type 0 where
 abbrev pub LayerNamesFirst : Type 0
 LayerNamesFirst = (n : ℕ) (h : Header) (r : Rule) → (form_of n h ≡ Broken r → FirstBroken n h r) × (FirstBroken n h r → form_of n h ≡ Broken r)
 
--- "in demand 3's well_formed too": the number 0 is given exactly where no rule is broken
+-- "in demand 3's well-formed too": the number 0 is given exactly where no rule is broken
 abbrev pub WellFormedBreaksNone : Type 0
 WellFormedBreaksNone =
     (n : ℕ) (h : Header)

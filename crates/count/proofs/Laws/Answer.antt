@@ -1,4 +1,4 @@
--- The answer to a refused read, read back: each field is the one that was put there, and it is a well_formed completion.
+-- The answer to a refused read, read back: each field is the one that was put there, and it is a well-formed completion.
 -- Its words are sums of fields at their places, each below its bound. Assumes nothing.
 use Prim.Native.Nat.{ℕ, ◌+◌, ◌*◌, ◌%◌, ◌<◌, ◌^◌}
 use mathlib.Core.Path.{◌≡◌, refl, ap, ◌∙◌}
@@ -111,7 +111,7 @@ module _ (h : Header) (c : ℕ) (b : c < 2 ^ 16) where
   pub answer_proper : Proper (answer_to h c)
   answer_proper = record { fits_0 = zeroth.fits; fits_1 = first.fits; fits_2 = second.fits; fits_3 = omega arith; lacks = λ _. refl }
 
-  -- it is a well_formed completion of 12 bytes
+  -- it is a well-formed completion of 12 bytes
   pub answer_form : form_of 12 (answer_to h c) ≡ Completion (answer_to h c)
   unfolding pick
   answer_form =

@@ -1,5 +1,4 @@
 -- By the Length: the two places are at most 3, so no difference wraps, and each case is the definition's. Assumes nothing.
-
 use native.Mathlib.Omega.{arith}
 use borrow.Author.Tests.{eq-eqb, ne_eqb}
 use Rattle.count.specs.Count.{byte_count_of}

@@ -1,5 +1,4 @@
 -- Bit by bit, from the highest. Assumes nothing.
-
 use Rattle.ground.proofs.Laws.Pick.{decide}
 use Rattle.count.proofs.highest.Goals as goal
 

@@ -1,5 +1,4 @@
 -- Five bits of the address at their place, and the place of the lowest enabled byte, which is at most 3. Assumes nothing.
-
 use native.Mathlib.Omega.{arith}
 use Rattle.count.proofs.Laws.Count.{places}
 use Rattle.count.proofs.lower_address.Goals as goal

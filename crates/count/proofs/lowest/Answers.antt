@@ -1,5 +1,4 @@
 -- Bit by bit, from the lowest. Assumes nothing.
-
 use Rattle.ground.proofs.Laws.Pick.{decide}
 use Rattle.count.proofs.lowest.Goals as goal
 

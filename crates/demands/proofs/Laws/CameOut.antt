@@ -41,7 +41,7 @@ use Rattle.demands.proofs.Laws.Outgoing.{translation_lt, translation_pages, numb
 pub whole_length : (n : ℕ) (h : Header) → wrong_length n h ≡ false → n ≡ total_bytes h
 whole_length n h e = eqb-true n (total_bytes h) (not-false (eqb n (total_bytes h)) e)
 
--- bytes that are a packet with these header words: as long as they say, read as them, and well_formed
+-- bytes that are a packet with these header words: as long as they say, read as them, and well-formed
 record Reads (s : List ℕ) (h : Header) : Type 0 where
   sized : length s ≡ total_bytes h
   words : header_of s ≡ h

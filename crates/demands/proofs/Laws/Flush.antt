@@ -101,7 +101,7 @@ data_back g s payload e k =
     ∙ ap (drop (header_bytes (kind g))) e
     ∙ drop_at (header_list g) payload (header_bytes (kind g)) (length_header g)
 
--- a well_formed write of one dword has 4 bytes of data
+-- a well-formed write of one dword has 4 bytes of data
 one_data_word : (s : List ℕ) → WellFormed (length s) (header_of s) → dwords (header_of s) ≡ 1 → is_write (kind (header_of s)) ≡ true → length (data_of s) ≡ 4
 unfolding pick
 one_data_word s w one write =

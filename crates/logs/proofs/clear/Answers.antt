@@ -1,5 +1,4 @@
 -- By the one test: refused, or done with those bits taken off, which the status has. Assumes nothing.
-
 use mathlib.Core.Path.{refl, ap, ◌∙◌}
 use Prim.Native.Nat.{ℕ, ◌-◌}
 use lib.ListN.{set}
@@ -18,13 +17,10 @@ returns-then-wrong_table-clause-logs_after c = (refused_call _ _ _ _ (returns-th
 
 pub returns-clause-value : goal.returns-clause-value
 unfolding clear_number
-returns-clause-value c = let a = c.args in
-    let right = told c.wrong_table.ensures c.if-wrong_table.false in
-    let new = ap (λ (s : ℕ). set a.logs.now (row_at a.p) (s - bit_and s a.ones)) c.word_32-status.ensures in
-    pass _ _ _ right refl
+returns-clause-value c = pass _ _ _ (told c.wrong_table.ensures c.if-wrong_table.false) refl
 
 pub returns-clause-logs_after : goal.returns-clause-logs_after
-returns-clause-logs_after c = let a = c.args in
-    let right = told c.wrong_table.ensures c.if-wrong_table.false in
+returns-clause-logs_after c =
+    let a = c.args in
     let new = ap (λ (s : ℕ). set a.logs.now (row_at a.p) (s - bit_and s a.ones)) c.word_32-status.ensures in
     (done_call _ _ _ _ (returns-clause-value c) (c.put_32.ensures ∙ new)).1

@@ -1,5 +1,4 @@
 -- The slot that was seen has a row that covers the address, so the sum is in range; where none was seen, nothing is open. Assumes nothing.
-
 use mathlib.Core.Path.{◌≡◌, refl, ap, ◌∙◌}
 use Prim.Native.Nat.{◌<◌}
 use native.Mathlib.Omega.{arith}

@@ -1,5 +1,4 @@
 -- The loop's invariant: the whole search is what is left of it, and what was seen but for the mark was seen below. Assumes nothing.
-
 use mathlib.Core.Path.{◌≡◌, refl, sym, ap, ◌∙◌}
 use Prim.Native.Nat.{ℕ}
 use mathlib.Core.Bool.{Bool, ◌||◌}

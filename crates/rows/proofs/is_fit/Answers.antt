@@ -1,5 +1,4 @@
 -- A size out of range does not fit by itself; one in range is below 64, and the last two tests say. Assumes nothing.
-
 use Rattle.ground.proofs.Laws.Join.{and_no, and_yes}
 use Rattle.ground.proofs.Laws.Pick.{told}
 use Rattle.rows.specs.Row.{is_fit}

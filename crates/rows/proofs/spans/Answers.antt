@@ -1,5 +1,4 @@
 -- An address below the base is outside; else its offset says. Assumes nothing.
-
 use borrow.Author.Tests.{le-leb, lt-leb}
 use mathlib.Core.Path.{refl}
 use Rattle.rows.proofs.Laws.Row.{shifted}

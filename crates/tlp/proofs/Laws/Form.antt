@@ -1,5 +1,5 @@
--- "What crosses is well_formed": a well_formed request that is moved by whole 4 KiB pages, in the header that fits, and
--- renamed is well_formed again; so is a completion that is returned.
+-- "What crosses is well-formed": a well-formed request that is moved by whole 4 KiB pages, in the header that fits, and
+-- renamed is well-formed again; so is a completion that is returned.
 -- The rules read TD, AT, the Length, the enables, the low 12 bits of the address and the kind but for its bit 5, and none of
 -- these moves; and the high word, which is not 0 where the new header has one.
 -- Assumes nothing.
@@ -164,7 +164,7 @@ contiguity_same g h p q r =
     ∙ ap (λ (k : ℕ). not (gaps_allowed h) && not (reaches_up k && reaches_down (last_enables g))) q
     ∙ ap (λ (k : ℕ). not (gaps_allowed h) && not (reaches_up (first_enables h) && reaches_down k)) r
 
--- a well_formed request moved by whole pages
+-- a well-formed request moved by whole pages
 module _ (n : ℕ) (h : Header) (a : ℕ) (f : WellFormed n h) (b : a < 2 ^ 64) (pages : a % 2 ^ 12 ≡ address h % 2 ^ 12) where
   moved_kind : SameKind (kind h) (kind (readdressed h a))
   moved_kind =
@@ -231,7 +231,7 @@ module _ (n : ℕ) (h : Header) (a : ℕ) (f : WellFormed n h) (b : a < 2 ^ 64) 
       ∙ ap (λ (k : ℕ). not (is_carried (kind h)) || eqb k 1 || not (eqb (address_type g) 0)) digest
       ∙ ap (λ (k : ℕ). not (is_carried (kind h)) || has_digest h || not (eqb k 0)) type
 
-  -- it is well_formed again
+  -- it is well-formed again
   pub moved : WellFormed (total_bytes (readdressed h a)) (readdressed h a)
   moved =
       record {
@@ -245,7 +245,7 @@ module _ (n : ℕ) (h : Header) (a : ℕ) (f : WellFormed n h) (b : a < 2 ^ 64) 
         high = moved_high;
       }
 
--- a well_formed request that is renamed is well_formed still
+-- a well-formed request that is renamed is well-formed still
 pub renamed_form : (n : ℕ) (h : Header) (id : ℕ) → id < 2 ^ 16 → WellFormed n h → WellFormed n (renamed h id)
 renamed_form n h id b f =
     let first = Rewrite.renamed_keeps h id b 0 4 (omega arith) in
@@ -314,7 +314,7 @@ returned_form n h id completer e =
     let f = (inverted_completion n h h e).0 in
     accepted_completion n (returned h id completer) (record { long = f.long; carried = f.carried; whole = f.whole; completion = f.completion })
 
--- "What crosses is well_formed", in bytes: the request read from s, moved by whole pages, renamed and written with its data
+-- "What crosses is well-formed", in bytes: the request read from s, moved by whole pages, renamed and written with its data
 pub crosses_well_formed : (s : List ℕ) (a id : ℕ) → Bytes s → packet_of s ≡ Request (header_of s) → a < 2 ^ 64
     → a % 2 ^ 12 ≡ address (header_of s) % 2 ^ 12 → id < 2 ^ 16
     → packet_of (packet_list (renamed (readdressed (header_of s) a) id) (drop (header_bytes (kind (header_of s))) s))

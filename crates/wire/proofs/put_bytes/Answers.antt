@@ -1,5 +1,4 @@
 -- The loop's invariant: the first i bytes are pasted. Assumes nothing.
-
 use native.Mathlib.Omega.{arith}
 use Prim.Native.Nat.{ℕ, ◌≤◌, ◌+◌}
 use mathlib.Core.Path.{◌≡◌, ◌∙◌, sym, ap}

@@ -1,5 +1,4 @@
 -- The first word, and the fourth where the header has one; where it has none, nothing is written there. Assumes nothing.
-
 use native.Mathlib.Omega.{arith}
 use mathlib.Core.Path.{refl, sym, ap, ◌∙◌}
 use mathlib.Core.List.{List, []}

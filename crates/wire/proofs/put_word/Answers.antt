@@ -1,5 +1,4 @@
 -- Four stores side by side, each of eight bits of the word, the highest first. Assumes nothing.
-
 use native.Mathlib.Omega.{arith}
 use mathlib.Core.Path.{◌≡◌}
 use Prim.Native.Nat.{◌%◌}

@@ -1,5 +1,4 @@
 -- Where header and data fit, the parts that are written are the packet; else nothing is written. Assumes nothing.
-
 use native.Mathlib.Omega.{arith}
 use Prim.Native.Nat.{ℕ, ◌+◌, ◌≤◌, ◌<◌}
 use mathlib.Core.Path.{sym, ap, ◌∙◌}

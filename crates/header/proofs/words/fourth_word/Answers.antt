@@ -1,5 +1,4 @@
 -- By byte 0: the test that led here picks the word or 0. Assumes nothing.
-
 use mathlib.Core.Path.{refl}
 use Rattle.ground.proofs.Laws.Pick.{hit, pass}
 use Rattle.header.proofs.words.fourth_word.Goals as goal

@@ -1,5 +1,4 @@
 -- By the lowest slot, as the definition has it. Assumes nothing.
-
 use native.Mathlib.Omega.{arith}
 use mathlib.Core.Path.{refl}
 use borrow.Author.Tests.{lt-ltb, le-ltb}

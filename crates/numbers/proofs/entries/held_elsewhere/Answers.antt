@@ -1,5 +1,4 @@
 -- The loop's invariant: the first such slot from here on is the first of all. Assumes nothing.
-
 use native.Mathlib.Omega.{arith}
 use mathlib.Core.Path.{sym, ◌∙◌}
 use borrow.Author.Tests.{lt-ltb, le-ltb}

@@ -1,5 +1,4 @@
 -- Held where the bits from 16 up are 1, as the definition has it: a word has 32 bits. Assumes nothing.
-
 use native.Mathlib.Omega.{arith}
 use Prim.Native.Nat.{ℕ, ◌/◌, ◌%◌}
 use mathlib.Core.Path.{◌≡◌, refl, ap}

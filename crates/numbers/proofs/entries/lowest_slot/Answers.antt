@@ -1,5 +1,4 @@
 -- The loop's invariant: the first slot from here on is the first of all. Assumes nothing.
-
 use native.Mathlib.Omega.{arith}
 use mathlib.Core.Path.{sym, ◌∙◌}
 use Rattle.ground.proofs.Laws.Pick.{told}

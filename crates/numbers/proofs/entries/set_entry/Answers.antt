@@ -1,5 +1,4 @@
 -- Test by test as in the definition: refused twice, or done with the word that holds the ID. Assumes nothing.
-
 use mathlib.Core.Path.{refl}
 use Rattle.ground.proofs.Laws.Pick.{hit, pass, told}
 use Rattle.ground.proofs.Laws.Table.{refused_call, done_call}
@@ -15,7 +14,8 @@ returns-then-wrong_entry-clause-numbers_after c = (refused_call _ _ _ _ (returns
 
 pub returns-clause-value : goal.returns-clause-value
 unfolding set_entry_number
-returns-clause-value c = let right = told c.wrong_entry.ensures c.if-wrong_entry.false in
+returns-clause-value c =
+    let right = told c.wrong_entry.ensures c.if-wrong_entry.false in
     let free = told c.held_elsewhere.ensures c.if-held_elsewhere.false in
     pass _ _ _ right (pass _ _ _ free refl)
 

@@ -1,5 +1,4 @@
 -- By the test. Assumes nothing.
-
 use mathlib.Core.Path.{refl, ap}
 use mathlib.Core.Bool.{Bool, not, ◌&&◌}
 use Rattle.ground.proofs.Laws.Pick.{hit, pass, told}

@@ -1,5 +1,4 @@
 -- A completion under no number of the sender's bus stays; else the entry is asked. Assumes nothing.
-
 use mathlib.Core.Path.{◌≡◌, refl, ap, ◌∙◌}
 use native.Mathlib.Omega.{arith}
 use Prim.Native.Nat.{ℕ, ◌%◌}

@@ -1,5 +1,4 @@
 -- By the two tests; a call that is not refused by 1 has a partition below 16. Assumes nothing.
-
 use mathlib.Core.Path.{refl, ap}
 use mathlib.Core.Bool.{not}
 use Rattle.ground.proofs.Laws.Pick.{hit, pass, told}

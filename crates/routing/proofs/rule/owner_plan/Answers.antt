@@ -1,5 +1,4 @@
 -- By the two tests. Assumes nothing.
-
 use mathlib.Core.Path.{refl, ap}
 use mathlib.Core.Bool.{Bool, not, ◌&&◌}
 use Prim.Native.Nat.{◌/◌}

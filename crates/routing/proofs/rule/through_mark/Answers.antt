@@ -1,5 +1,4 @@
 -- By the test: a mark that the window does not let pass stops; else the entry is asked for. Assumes nothing.
-
 use mathlib.Core.Path.{refl, ap, ◌∙◌}
 use mathlib.Core.Bool.{Bool, not, ◌&&◌}
 use Rattle.numbers.specs.Entries.{entry_of}

@@ -1,5 +1,4 @@
 -- By the one test. Assumes nothing.
-
 use mathlib.Core.Path.{refl}
 use Rattle.ground.proofs.Laws.Pick.{hit, pass, told}
 use Rattle.routing.specs.Rule.{to_destination}

@@ -1,5 +1,4 @@
 -- A row that is not in force covers nothing; of one in force the shift is in range, and the span says. Assumes nothing.
-
 use native.Mathlib.Omega.{arith}
 use Rattle.rows.proofs.Laws.Row.{plain_size, force}
 use Rattle.ground.proofs.Laws.Pick.{told}

@@ -1,5 +1,4 @@
 -- A row that is not plain is not in force; of a plain one k is below 64, and the last three tests say. Assumes nothing.
-
 use Rattle.ground.proofs.Laws.Join.{and_no, and_yes}
 use Rattle.ground.proofs.Laws.Pick.{told}
 use Rattle.rows.specs.Row.{in_force}

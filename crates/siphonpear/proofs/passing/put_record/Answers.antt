@@ -1,5 +1,4 @@
 -- Eight stores side by side; the length is small, so that it is the same as a number of 32 bits. Assumes nothing.
-
 use Rattle.siphonpear.proofs.Laws.Eight.{eight_stores}
 use Rattle.siphonpear.proofs.passing.put_record.Goals as goal
 

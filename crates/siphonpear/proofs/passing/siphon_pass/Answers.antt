@@ -1,5 +1,4 @@
 -- The passing call has the rule's answer, which is small enough to be written as words; a short buffer is refused first. Assumes nothing.
-
 use Rattle.siphonpear.proofs.Laws.Call.{too_short_lem, long_enough}
 use Rattle.routing.specs.Call.{lent, call_of, asked}
 use Rattle.switch.proofs.Laws.Small.{small}

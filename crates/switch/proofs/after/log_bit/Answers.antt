@@ -1,5 +1,4 @@
 -- By the refusal: the list's column is read at its number, of a rule that broke by its own function. Assumes nothing.
-
 use Rattle.ground.specs.Pick.{pick}
 use Rattle.switch.specs.After.{log_bit}
 use Rattle.switch.proofs.after.log_bit.Goals as goal

@@ -1,5 +1,4 @@
 -- By the rule: the list's column is read at its number. Assumes nothing.
-
 use Rattle.ground.specs.Pick.{pick}
 use Rattle.switch.specs.After.{log_bit}
 use Rattle.switch.proofs.after.rule_bit.Goals as goal

@@ -1,5 +1,4 @@
 -- A read that the list answers is answered by the record of its answer; anything else is dropped. Assumes nothing.
-
 use mathlib.Core.Path.{◌≡◌, refl, ap, ◌∙◌}
 use mathlib.Core.Bool.{◌&&◌}
 use Rattle.header.specs.Kind.{is_read}

@@ -1,5 +1,4 @@
 -- Past the gate the sender is active, and the way, which the three steps make, reaches where it leads. Assumes nothing.
-
 use mathlib.Core.Path.{sym, subst}
 use lib.ListN.{length}
 use Rattle.routing.specs.Call.{lent, Asked}

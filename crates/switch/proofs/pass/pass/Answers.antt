@@ -1,5 +1,4 @@
 -- A closed gate drops the packet, and everything stays; past it the packet is carried with its own header words and data. Assumes nothing.
-
 use native.Mathlib.Omega.{arith}
 use mathlib.Core.Path.{sym, ◌∙◌}
 use lib.ListN.{length}

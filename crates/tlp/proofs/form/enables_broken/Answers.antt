@@ -1,5 +1,4 @@
 -- By the Length: each case tests the enables that the rule names. Assumes nothing.
-
 use Rattle.ground.proofs.Laws.Pick.{decide}
 use Rattle.tlp.proofs.form.enables_broken.Goals as goal
 

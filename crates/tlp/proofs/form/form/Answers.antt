@@ -1,5 +1,4 @@
 -- Test by test, in the order of the definition. Assumes nothing.
-
 use Rattle.ground.proofs.Laws.Pick.{decide}
 use Rattle.tlp.specs.Form.{form_of}
 use Rattle.tlp.proofs.form.form.Goals as goal

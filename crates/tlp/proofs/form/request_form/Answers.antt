@@ -1,5 +1,4 @@
 -- Test by test, in the order of the definition. Assumes nothing.
-
 use Rattle.ground.proofs.Laws.Pick.{decide}
 use Rattle.tlp.specs.Form.{request_form}
 use Rattle.tlp.proofs.form.request_form.Goals as goal

@@ -1,5 +1,4 @@
 -- The fields are below their bounds, so the sums are in range; and bit 13 is there as chosen. Assumes nothing.
-
 use native.Mathlib.Omega.{arith}
 use Prim.Native.Nat.{ℕ}
 use mathlib.Core.Path.{◌≡◌, refl}

@@ -1,5 +1,4 @@
 -- By the one test: refused, or done with a row of zeros. Assumes nothing.
-
 use mathlib.Core.Path.{refl}
 use Rattle.ground.proofs.Laws.Pick.{hit, pass, told}
 use Rattle.ground.proofs.Laws.Table.{refused_call, done_call}

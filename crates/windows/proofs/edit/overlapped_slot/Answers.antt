@@ -1,5 +1,4 @@
 -- The loop's invariant: the whole search is what is left of it. Assumes nothing.
-
 use mathlib.Core.Path.{sym, ◌∙◌}
 use native.Mathlib.Omega.{arith}
 use Rattle.ground.proofs.Laws.Pick.{told}

@@ -1,5 +1,4 @@
 -- A row that is not in force overlaps nothing; one in force is aligned and its shift in range, and the spans say. Assumes nothing.
-
 use native.Mathlib.Omega.{arith}
 use Rattle.ground.proofs.Laws.Pick.{told}
 use Rattle.rows.proofs.Laws.Row.{plain_size, force}

@@ -1,5 +1,4 @@
 -- Test by test as in the definition: refused three times, or done with the row that holds the values. Assumes nothing.
-
 use native.Mathlib.Omega.{arith}
 use Prim.Native.Nat.{ℕ}
 use mathlib.Core.Path.{refl, ap, ◌∙◌}
@@ -18,7 +17,8 @@ returns-then-wrong_window-clause-windows_after c = (refused_call _ _ _ _ (return
 
 pub returns-then-wrong_values-clause-value : goal.returns-then-wrong_values-clause-value
 unfolding set_window_number
-returns-then-wrong_values-clause-value c = let right = told c.wrong_window.ensures c.if-wrong_window.false in
+returns-then-wrong_values-clause-value c =
+    let right = told c.wrong_window.ensures c.if-wrong_window.false in
     let wrong = told c.wrong_values.ensures c.if-wrong_values.true in
     pass _ _ _ right (hit _ _ _ wrong refl)
 
@@ -33,7 +33,8 @@ overlaps-requires c =
 
 pub returns-then-overlaps-clause-value : goal.returns-then-overlaps-clause-value
 unfolding set_window_number
-returns-then-overlaps-clause-value c = let right = told c.wrong_window.ensures c.if-wrong_window.false in
+returns-then-overlaps-clause-value c =
+    let right = told c.wrong_window.ensures c.if-wrong_window.false in
     let fit = told c.wrong_values.ensures c.if-wrong_values.false in
     let other = told c.overlaps.ensures c.if-overlaps.true in
     pass _ _ _ right (pass _ _ _ fit (hit _ _ _ other refl))
@@ -49,17 +50,14 @@ control_word-control-requires c =
 
 pub returns-clause-value : goal.returns-clause-value
 unfolding set_window_number
-returns-clause-value c = let a = c.args in
+returns-clause-value c =
     let right = told c.wrong_window.ensures c.if-wrong_window.false in
     let fit = told c.wrong_values.ensures c.if-wrong_values.false in
     let alone = told c.overlaps.ensures c.if-overlaps.false in
-    let new = ap (λ (x : ℕ). with_row a.p a.slot a.base a.target x a.windows.now) c.control_word-control.ensures in
     pass _ _ _ right (pass _ _ _ fit (pass _ _ _ alone refl))
 
 pub returns-clause-windows_after : goal.returns-clause-windows_after
-returns-clause-windows_after c = let a = c.args in
-    let right = told c.wrong_window.ensures c.if-wrong_window.false in
-    let fit = told c.wrong_values.ensures c.if-wrong_values.false in
-    let alone = told c.overlaps.ensures c.if-overlaps.false in
+returns-clause-windows_after c =
+    let a = c.args in
     let new = ap (λ (x : ℕ). with_row a.p a.slot a.base a.target x a.windows.now) c.control_word-control.ensures in
     (done_call _ _ _ _ (returns-clause-value c) (c.put_row.ensures ∙ new)).1

@@ -1,5 +1,4 @@
 -- By the kind: the test that led here picks the length. Assumes nothing.
-
 use Rattle.ground.proofs.Laws.Pick.{decide}
 use Rattle.header.proofs.kind.Kind.header_bytes.Goals as goal
 

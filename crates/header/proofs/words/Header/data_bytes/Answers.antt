@@ -1,5 +1,4 @@
 -- By the kind: four bytes a dword, or none. Assumes nothing.
-
 use mathlib.Core.Path.{refl}
 use Rattle.ground.proofs.Laws.Pick.{hit, pass}
 use Rattle.header.proofs.words.Header.data_bytes.Goals as goal

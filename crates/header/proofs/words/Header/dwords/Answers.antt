@@ -1,5 +1,4 @@
 -- By the field: 0 picks 1,024, and any other value itself. Assumes nothing.
-
 use Rattle.ground.proofs.Laws.Pick.{decide}
 use Rattle.header.proofs.words.Header.dwords.Goals as goal
 

@@ -1,5 +1,4 @@
 -- By the kind: the first address word of two, or 0. Assumes nothing.
-
 use Rattle.ground.proofs.Laws.Pick.{decide}
 use Rattle.header.proofs.words.Header.high_word.Goals as goal
 

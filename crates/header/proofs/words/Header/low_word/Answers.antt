@@ -1,5 +1,4 @@
 -- By the kind: the second address word of two, or the only one. Assumes nothing.
-
 use Rattle.ground.proofs.Laws.Pick.{decide}
 use Rattle.header.proofs.words.Header.low_word.Goals as goal
 

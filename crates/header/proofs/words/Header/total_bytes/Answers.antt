@@ -1,5 +1,4 @@
 -- The sum of the two parts, each of which is bounded. Assumes nothing.
-
 use native.Mathlib.Omega.{arith}
 use Rattle.header.proofs.Laws.Lengths.{header_bounds, data_at_most}
 use Rattle.header.specs.Fields.{kind}

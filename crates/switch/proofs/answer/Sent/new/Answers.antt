@@ -1,5 +1,4 @@
 -- The words' count is picked by the kind. Assumes nothing.
-
 use mathlib.Core.Path.{◌≡◌, refl}
 use Prim.Native.Nat.{ℕ}
 use Rattle.ground.proofs.Laws.Pick.{hit, pass, told}
