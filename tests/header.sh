@@ -90,16 +90,24 @@ calls_of_header() {
         }' "$1"
 }
 
-# numbers_of PREFIX FILE: the arms `Name => N` of a function `number`, as PREFIX_NAME N
+# numbers_of PREFIX FILE: the cases `Name = N` of an enum, and the arms `Enum::Name => N` of a conversion `from`, as PREFIX_NAME N
 numbers_of() {
     PREFIX=$1 awk '
-        /fn number\(/ { inside = 1 }
-        inside && /^    }$/ { inside = 0 }
-        inside && /::[A-Za-z]+ => [0-9]+,/ {
+        /^pub enum / || /^    fn from\(/ { inside = 1 }
+        inside && /^(    )?}$/ { inside = 0 }
+        inside && /^ +([A-Za-z]+ =|[A-Za-z]+::[A-Za-z]+ =>) [0-9]+,/ {
             name = $1; sub(/.*::/, "", name); gsub(/[A-Z]/, "_&", name)
             value = $3; sub(/,/, "", value)
             print ENVIRON["PREFIX"] toupper(name), value
         }' "$2"
+}
+
+# done_of AS FILE: the arm `Ok(()) => N` of the function `call_number` of a file, as AS N
+done_of() {
+    AS=$1 awk '
+        /^pub fn call_number\(/ { inside = 1 }
+        inside && /^}$/ { inside = 0 }
+        inside && $1 == "Ok(())" && $2 == "=>" { value = $3; sub(/,/, "", value); print ENVIRON["AS"], value }' "$2"
 }
 
 # constant_of AS FILE NAME: the constant NAME of a file, as AS N
@@ -112,13 +120,8 @@ constant_of() {
 constants_of_source() {
     numbers_of SIPHON crates/routing/src/refusal.rt
     numbers_of SIPHON crates/tlp/src/form.rt
-    for name in DONE WRONG_CALL; do
-        constant_of "SIPHON_$name" crates/ground/src/table.rt "$name"
-    done
-    for name in WINDOW_VALUES OVERLAP; do
-        constant_of "SIPHON_$name" crates/windows/src/edit.rt "$name"
-    done
-    constant_of SIPHON_REPETITION crates/numbers/src/entries.rt REPETITION
+    numbers_of SIPHON crates/ground/src/table.rt
+    done_of SIPHON_DONE crates/ground/src/table.rt
     numbers_of SIPHON_LOG crates/logs/src/lib.rt
     constant_of SIPHON_WINDOWS crates/rows/src/lib.rt LENGTH
     constant_of SIPHON_NUMBERS crates/numbers/src/entries.rt LENGTH

@@ -1,7 +1,7 @@
 #!/bin/sh
 # docs/PROMISES.md against the tree: every place that it cites is there, and every public function of a library is cited.
 # A place is CRATE/specs/FILE:NAME, CRATE/proofs/FILE:NAME (a definition, record or law) or CRATE/src/FILE:NAME (a
-# function or constant), in backticks.
+# function or constant), in backticks. A conversion is its function `from`.
 set -u
 cd "$(dirname "$0")/.." || exit 2
 . tests/lib.sh
@@ -32,13 +32,31 @@ while IFS= read -r place; do
 done <"$work/cited"
 expect "$promises cites fewer than a hundred places" [ "$(wc -l <"$work/cited")" -ge 100 ]
 
+# public_functions FILE: the names of its public functions: those that are `pub`, and those of an `impl` of a trait that names no type
+# which the file keeps to itself
+public_functions() {
+    awk '
+        NR == FNR {
+            if (sub(/^(pub\(crate\) )?(struct|enum) /, "")) { sub(/[^A-Za-z0-9_].*/, ""); kept[$0] }
+            next
+        }
+        /^impl/ {
+            of_trait = / for /
+            n = split($0, word, /[^A-Za-z0-9_]+/)
+            for (i = 1; i <= n; i++) if (word[i] in kept) of_trait = 0
+        }
+        /^}/ { of_trait = 0 }
+        { sub(/^[ \t]+/, "") }
+        /^pub (extern "C" )?fn / || (of_trait && /^fn /) { sub(/^(pub )?(extern "C" )?fn /, ""); sub(/[(<].*/, ""); print }' "$1" "$1"
+}
+
 # every public function of a library, but for what only its own crate can call
 for lib in crates/*/src/lib.rt; do
     crate=${lib#crates/}
     crate=${crate%%/*}
     for file in "crates/$crate"/src/*.rt; do
         path=${file#crates/}
-        awk '{ sub(/^[ \t]+/, "") } /^pub (extern "C" )?fn / { sub(/^pub (extern "C" )?fn /, ""); sub(/[(<].*/, ""); print }' "$file" >"$work/public"
+        public_functions "$file" >"$work/public"
         while IFS= read -r name; do
             expect "$promises does not cite the public function ${path%.rt}:$name" grep -qxF "${path%.rt}:$name" "$work/cited"
         done <"$work/public"

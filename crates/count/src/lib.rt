@@ -27,10 +27,11 @@ fn enabled(i: u32, e: u8) -> bool
     requires { i < 4 }
     ensures { result ≡ enabled i e }
 {
-    (e >> i) % 2 == 1
+    (e >> i) & 1 == 1
 }
 
 // The place of the lowest enabled byte; 0 where none is.
+#[tactic(auto, unfolding(ground::specs::Pick::pick))]
 fn lowest(e: u8) -> u8
     ensures { result ≡ lowest e }
 {
@@ -47,6 +48,7 @@ fn lowest(e: u8) -> u8
 }
 
 // The place of the highest enabled byte; 0 where none is.
+#[tactic(auto, unfolding(ground::specs::Pick::pick))]
 fn highest(e: u8) -> u8
     ensures { result ≡ highest e }
 {
@@ -60,14 +62,15 @@ fn highest(e: u8) -> u8
 }
 
 // The byte count of `n` dwords with these enables.
+#[tactic(auto, using(crate::proofs::Laws::Count::places), unfolding(crate::specs::Count::byte_count_of, ground::specs::Pick::pick))]
 fn count_of(n: u16, first: u8, last: u8) -> u16
     requires { (0 < n) × (n < 2 ^ 11) }
     ensures { result ≡ byte_count_of n first last }
 {
     if n == 1 {
-        ((highest(first) - lowest(first)) as u16) + 1
+        u16::from(highest(first) - lowest(first)) + 1
     } else {
-        4 * n - (lowest(first) as u16) - (3 - (highest(last) as u16))
+        4 * n - u16::from(lowest(first)) - (3 - u16::from(highest(last)))
     }
 }
 
@@ -80,6 +83,7 @@ fn place(low: u32, x: u32) -> u32
 }
 
 // How many bytes a read asks for, 1 to 4,096, from the lowest enabled to the highest.
+#[tactic(auto, using(header::proofs::Laws::Lengths::dwords_bounds))]
 pub fn byte_count(read: Header) -> u16
     ensures { result ≡ byte_count read }
 {
@@ -87,6 +91,7 @@ pub fn byte_count(read: Header) -> u16
 }
 
 // "address bits 6:2 and the place of the lowest enabled byte"
+#[tactic(auto, using(crate::proofs::Laws::Count::places))]
 pub fn lower_address(read: Header) -> u8
     ensures { result ≡ lower_address read }
 {
@@ -97,25 +102,27 @@ pub fn lower_address(read: Header) -> u8
 fn answer_word_0(read: Header) -> u32
     ensures { result ≡ answer_word_0 read }
 {
-    place(24, Kind::COMPLETION as u32)
-        + place(20, read.traffic_class() as u32)
-        + place(12, read.attributes() as u32)
+    place(24, u32::from(Kind::COMPLETION.byte))
+        + place(20, u32::from(read.traffic_class()))
+        + place(12, u32::from(read.attributes()))
 }
 
 // "completer, status 1, BCM 0, byte count"
 fn answer_word_1(read: Header, completer: u16) -> u32
     ensures { result ≡ answer_word_1 read completer }
 {
-    place(16, completer as u32) + place(13, UNSUPPORTED_REQUEST) + (byte_count(read) as u32) % 4096
+    place(16, u32::from(completer))
+        + place(13, UNSUPPORTED_REQUEST)
+        + u32::from(byte_count(read)) % 4096
 }
 
 // "its requester ID, tag, lower address"
 fn answer_word_2(read: Header) -> u32
     ensures { result ≡ answer_word_2 read }
 {
-    place(16, read.requester_id() as u32)
-        + place(8, read.tag() as u32)
-        + (lower_address(read) as u32)
+    place(16, u32::from(read.requester_id()))
+        + place(8, u32::from(read.tag()))
+        + u32::from(lower_address(read))
 }
 
 // The completion that answers this read where it is refused.

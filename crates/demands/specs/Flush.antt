@@ -1,5 +1,5 @@
 -- R-1: "a Length 1 request with first enables 0, read or write": a flush. As a read it shows that what was written has arrived.
-use Rattle.std.specs.Prelude.{ℕ, ◌≤◌, true, false, ◌≡◌, length}
+use Rattle.std.specs.Prelude.{ℕ, ◌≤◌, true, false, ◌≡◌, length, Ok}
 use Rattle.ground.specs.Field.{field, place}
 use Rattle.header.specs.Kind.{is_read, is_write, is_request}
 use Rattle.header.specs.Words.{header_of}
@@ -29,7 +29,7 @@ pub record RestKept (n : ℕ) (h : Header) : Type 0 where
 
 -- a flush that keeps these is read as the request that it is: no rule on enables, gaps or pages refuses it
 abbrev pub FlushWellFormed : Type 0
-FlushWellFormed = (n : ℕ) (h : Header) → Flush h → RestKept n h → form_of n h ≡ Request h
+FlushWellFormed = (n : ℕ) (h : Header) → Flush h → RestKept n h → form_of n h ≡ Ok (Request h)
 
 -- "3 no longer for this", in R-4's numbers: 33, 34 and 35, for enables, gaps and pages, are not given to a flush, whatever else it breaks
 abbrev pub FlushNever33To35 : Type 0

@@ -1,5 +1,5 @@
 -- The rule that settles it: "a packet passes by an open window and a filled mapping entry, or it stays at home and is logged there".
-use Rattle.std.specs.Prelude.{ℕ, ◌+◌, ◌≤◌, ◌<◌, false, ◌≡◌, ◌⊎◌, get_or}
+use Rattle.std.specs.Prelude.{ℕ, ◌+◌, ◌≤◌, ◌<◌, false, ◌≡◌, ◌⊎◌, get_or, Some}
 use Rattle.std.specs.Int.Bits.{bit_or}
 use Rattle.ground.specs.Field.{field}
 use Rattle.header.specs.Fields.{is_poisoned, requester_id, address, completion_requester_id}
@@ -12,7 +12,6 @@ use Rattle.numbers.specs.declared.entries.Entry.TheVariants.{Held}
 use Rattle.logs.specs.Logs.{row_at, row_width, status_of, bit_number, bit_mask}
 use Rattle.logs.specs.declared.Bit.{Bit}
 use Rattle.switch.specs.declared.answer.Sent.{Sent}
-use Rattle.switch.specs.declared.after.Logged.TheVariants.{Under}
 use Rattle.routing.specs.Call.{Covered, HasWay, Call, head_of}
 use Rattle.routing.specs.Rule.{bus_id, mapped_id, is_stopped}
 use Rattle.switch.specs.Answer.{Answer, crossed, answered, dropped, sent_of}
@@ -47,7 +46,7 @@ pub record CompletionPassed (c : Call) (x : Sent) : Type 0 where
 -- the list's bit of refusal n is set in the sender's status, and every other bit of it kept
 pub record IsLogged (c : Call) (n : ℕ) : Type 0 where
   pub bit : Bit
-  pub named : log_bit n ≡ Under bit
+  pub named : log_bit n ≡ Some bit
   pub status : status_of c.sender (logs_of c) ≡ bit_or (status_of c.sender c.logs) (bit_mask bit)
   pub lit : field (bit_number bit) 1 (status_of c.sender (logs_of c)) ≡ 1
 

@@ -3,14 +3,12 @@ ghost use Rattle.std.specs.Prelude.{◌≡◌, ◌%◌};
 ghost use Rattle.desk.specs.Hex.{hex_digit, hex_word};
 
 // The digit of the lowest four bits.
+#[tactic(auto, using(ground::proofs::Laws::Pick::decide))]
 pub fn digit(n: u32) -> u8
     ensures { result ≡ hex_digit (n % 16) }
 {
     let d = (n % 16) as u8;
-    if d < 10 {
-        return 48 + d;
-    }
-    55 + d
+    if d < 10 { b'0' + d } else { b'A' + (d - 10) }
 }
 
 // A word, the highest digit first.
@@ -18,13 +16,13 @@ pub fn word(w: u32) -> [u8; 8]
     ensures { result ≡ hex_word w }
 {
     [
-        digit(w / 0x1000_0000),
-        digit(w / 0x0100_0000),
-        digit(w / 0x0010_0000),
-        digit(w / 0x0001_0000),
-        digit(w / 0x1000),
-        digit(w / 0x0100),
-        digit(w / 0x0010),
+        digit(w >> 28),
+        digit(w >> 24),
+        digit(w >> 20),
+        digit(w >> 16),
+        digit(w >> 12),
+        digit(w >> 8),
+        digit(w >> 4),
         digit(w),
     ]
 }

@@ -1,57 +1,60 @@
 // An outcome as one line: `crossed`, its partition, length and header words; `answered`, its refusal, length and header words;
 // `dropped` and its refusal. Words are upper-case hex, other numbers decimal; data words are not printed.
+ghost use Rattle.std.specs.Prelude.{Some};
+ghost use Rattle.desk.specs.Hex.{hex_word};
+
 use crate::hex;
-use header::words::Header;
-use std::io;
+use std::fmt;
 use switch::answer::{Outcome, Sent};
 
-// A blank and a number.
-fn print_number(rt: &impl Print, n: u64) -> io::Result<()> {
-    print!(rt; " {n}")
-}
+// A word, as eight digits.
+#[derive(Clone, Copy)]
+struct Word(u32);
 
-// A blank and a word.
-fn print_word(rt: &impl Print, word: u32) -> io::Result<()> {
-    let text = hex::word(word);
-    rt.write_all(b" ")?;
-    rt.write_all(&text)
-}
+impl fmt::Display for Word {
+    ghost output = { λ w. Some (hex_word w.0) };
 
-// The header's own three words, or four.
-fn print_header(rt: &impl Print, h: Header, words: u8) -> io::Result<()> {
-    print_word(rt, h.w0)?;
-    print_word(rt, h.w1)?;
-    print_word(rt, h.w2)?;
-    if words == 4 {
-        print_word(rt, h.w3)?;
+    fn fmt<W: fmt::Write>(&self, f: &mut fmt::Formatter<W>) -> fmt::Result {
+        let digits = hex::word(self.0);
+        f.write_str(str::from_utf8(&digits).unwrap())
     }
-    Ok(())
 }
 
-// The length of what came out, and its header.
-fn print_sent(rt: &impl Print, sent: Sent) -> io::Result<()> {
-    let h = sent.header;
-    print_number(rt, sent.length as u64)?;
-    print_header(rt, h, sent.words)
+// What came out: its length, and the header's own three words, or four.
+#[derive(Clone, Copy)]
+struct Shown(Sent);
+
+impl fmt::Display for Shown {
+    fn fmt<W: fmt::Write>(&self, f: &mut fmt::Formatter<W>) -> fmt::Result {
+        let sent = self.0;
+        let h = sent.header;
+        write!(
+            f,
+            "{} {} {} {}",
+            sent.length,
+            Word(h.w0),
+            Word(h.w1),
+            Word(h.w2)
+        )?;
+        if sent.words == 4 {
+            write!(f, " {}", Word(h.w3))?;
+        }
+        Ok(())
+    }
 }
 
 // The line.
-pub(crate) fn print(rt: &impl Print, outcome: Outcome) -> io::Result<()> {
-    match outcome {
-        Outcome::Crossed(sent) => {
-            rt.write_all(b"crossed")?;
-            print_number(rt, sent.partition as u64)?;
-            print_sent(rt, sent)?;
-        }
-        Outcome::Answered(refusal, sent) => {
-            rt.write_all(b"answered")?;
-            print_number(rt, refusal.number() as u64)?;
-            print_sent(rt, sent)?;
-        }
-        Outcome::Dropped(refusal) => {
-            rt.write_all(b"dropped")?;
-            print_number(rt, refusal.number() as u64)?;
+#[derive(Clone, Copy)]
+pub(crate) struct Line(pub(crate) Outcome);
+
+impl fmt::Display for Line {
+    fn fmt<W: fmt::Write>(&self, f: &mut fmt::Formatter<W>) -> fmt::Result {
+        match self.0 {
+            Outcome::Crossed(sent) => write!(f, "crossed {} {}", sent.partition, Shown(sent)),
+            Outcome::Answered(refusal, sent) => {
+                write!(f, "answered {} {}", u32::from(refusal), Shown(sent))
+            }
+            Outcome::Dropped(refusal) => write!(f, "dropped {}", u32::from(refusal)),
         }
     }
-    rt.write_all(b"\n")
 }

@@ -5,7 +5,7 @@ ghost use Rattle.switch.specs.After.{answer_of, out_of};
 ghost use Rattle.sheet.specs.Cases.{over_sheet};
 ghost use Rattle.desk.specs.Passing.{OutOfInput};
 
-use crate::line;
+use crate::line::Line;
 use std::io;
 use std::io::Read;
 use switch::answer::Outcome;
@@ -28,22 +28,17 @@ fn read_full(input: &mut impl Read, buf: &mut [u8]) -> usize
 {
     let mut done = 0;
     while done < buf.len() {
-        let n = input.read(&mut buf[done..]).unwrap_or(0);
-        if n == 0 {
-            break;
+        match input.read(&mut buf[done..]) {
+            Ok(0) | Err(_) => break,
+            Ok(n) => done += n,
         }
-        done += n;
     }
     done
 }
 
 // Whether standard input failed after `n` bytes: where there was room for more, one further read tells an end from a failure.
 fn failed(input: &mut impl Read, n: usize, room: usize) -> bool {
-    let mut one = [0u8; 1];
-    if n < room {
-        return input.read(&mut one).is_err();
-    }
-    false
+    n < room && input.read(&mut [0u8; 1]).is_err()
 }
 
 // Reads one packet from standard input, cut where the buffer ends, passes it from `p`, and prints the line. What is said of Out
@@ -59,7 +54,7 @@ pub fn pass_input(
     let mut input = rt.reader();
     let n = read_full(&mut input, packet);
     if failed(&mut input, n, packet.len()) {
-        return rt.write_all(b"no packet: standard input cannot be read\n");
+        return println!(rt; "no packet: standard input cannot be read");
     }
-    line::print(rt, over_sheet(p, &packet[..n], out))
+    println!(rt; "{}", Line(over_sheet(p, &packet[..n], out)))
 }

@@ -3,4 +3,6 @@ pub mod Pick
 pub mod Join
 pub mod Field
 pub mod Scan
+pub mod Chain
 pub mod Table
+pub mod Called

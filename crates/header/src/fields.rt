@@ -34,7 +34,7 @@ impl Header {
     pub fn kind(self) -> Kind
         ensures { result.byte ≡ kind self }
     {
-        Kind::new(field(self.w0, 24, 8) as u8)
+        Kind::from(field(self.w0, 24, 8) as u8)
     }
 
     // The packet is a memory read.
@@ -101,6 +101,7 @@ impl Header {
     }
 
     // "Length 9:0 in dwords, 0 meaning 1,024"
+    #[tactic(auto, using(ground::proofs::Laws::Pick::decide))]
     pub fn dwords(self) -> u16
         ensures { result ≡ dwords self }
     {
@@ -109,17 +110,19 @@ impl Header {
     }
 
     // How many bytes of data follow the header.
+    #[tactic(auto, using(ground::proofs::Laws::Pick::decide))]
     pub fn data_bytes(self) -> usize
         ensures { result ≡ data_bytes self }
     {
         if self.kind().has_data() {
-            4 * (self.dwords() as usize)
+            4 * usize::from(self.dwords())
         } else {
             0
         }
     }
 
     // How long the whole packet is, in bytes.
+    #[tactic(auto, using(crate::proofs::Laws::Lengths::header_bounds, crate::proofs::Laws::Lengths::data_at_most))]
     pub fn total_bytes(self) -> usize
         ensures { result ≡ total_bytes self }
     {
@@ -158,6 +161,7 @@ impl Header {
     }
 
     // The high address word, 0 where the header has none.
+    #[tactic(auto, using(ground::proofs::Laws::Pick::decide))]
     pub fn high_word(self) -> u32
         ensures { result ≡ high_word self }
     {
@@ -165,6 +169,7 @@ impl Header {
     }
 
     // The low address word.
+    #[tactic(auto, using(ground::proofs::Laws::Pick::decide))]
     pub fn low_word(self) -> u32
         ensures { result ≡ low_word self }
     {
@@ -179,7 +184,7 @@ impl Header {
     pub fn address(self) -> u64
         ensures { result ≡ address self }
     {
-        (self.high_word() as u64) * 0x1_0000_0000 + (self.low_word() as u64) / 4 * 4
+        u64::from(self.high_word()) * 0x1_0000_0000 + u64::from(self.low_word()) / 4 * 4
     }
 }
 

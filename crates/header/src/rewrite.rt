@@ -11,10 +11,8 @@ impl Header {
         ensures { result ≡ renamed self id }
     {
         Header {
-            w0: self.w0,
-            w1: with_field(self.w1, 16, 16, id as u32),
-            w2: self.w2,
-            w3: self.w3,
+            w1: with_field(self.w1, 16, 16, u32::from(id)),
+            ..self
         }
     }
 
@@ -23,10 +21,9 @@ impl Header {
         ensures { result ≡ returned self id completer }
     {
         Header {
-            w0: self.w0,
-            w1: with_field(self.w1, 16, 16, completer as u32),
-            w2: with_field(self.w2, 16, 16, id as u32),
-            w3: self.w3,
+            w1: with_field(self.w1, 16, 16, u32::from(completer)),
+            w2: with_field(self.w2, 16, 16, u32::from(id)),
+            ..self
         }
     }
 
@@ -43,9 +40,9 @@ impl Header {
     {
         Header {
             w0: with_field(self.w0, 29, 1, 1),
-            w1: self.w1,
             w2: (a / 0x1_0000_0000) as u32,
             w3: self.low_word_for(a),
+            ..self
         }
     }
 
@@ -55,9 +52,9 @@ impl Header {
     {
         Header {
             w0: with_field(self.w0, 29, 1, 0),
-            w1: self.w1,
             w2: self.low_word_for(a),
             w3: 0,
+            ..self
         }
     }
 

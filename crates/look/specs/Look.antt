@@ -1,5 +1,5 @@
 -- The look: what becomes of an address, who leads where, and the one question that passing asks of a partition's rows.
-use Rattle.std.specs.Prelude.{ℕ, ◌+◌, ◌-◌, ◌≤◌, ◌<◌, Bool, true, false, ◌≡◌, List, ltb}
+use Rattle.std.specs.Prelude.{ℕ, ◌+◌, ◌-◌, ◌≤◌, ◌<◌, Bool, true, false, ◌≡◌, List, ltb, Option, Some, None}
 use Rattle.ground.specs.Pick.{pick}
 use Rattle.ground.specs.Scan.{first, some}
 use Rattle.rows.specs.Row.{slots, row_of, destination, passes_marked, in_force, covers, leads}
@@ -7,8 +7,6 @@ use Rattle.rows.specs.declared.Window.{Window}
 use Rattle.look.specs.declared.Translation.{Translation}
 use Rattle.look.specs.declared.Question.{Question}
 use Rattle.look.specs.declared.Question.TheVariants.{Silent, Address, Return}
-use Rattle.look.specs.declared.Look.{Look}
-use Rattle.look.specs.declared.Look.TheVariants.{Shut, Open}
 
 -- slot s of partition p covers the address
 abbrev pub slot_covers : List ℕ → ℕ → ℕ → ℕ → Bool
@@ -23,8 +21,8 @@ abbrev pub translated : Window → ℕ → Translation
 translated w a = record { destination = destination w; address = a - w.base + w.target; marked = passes_marked w }
 
 -- what the windows say of an address
-unfoldable pub look_up : List ℕ → ℕ → ℕ → Look
-look_up windows p a = pick (ltb (lowest_slot windows p a) slots) (Open (translated (row_of windows p (lowest_slot windows p a)) a)) Shut
+unfoldable pub look_up : List ℕ → ℕ → ℕ → Option Translation
+look_up windows p a = pick (ltb (lowest_slot windows p a) slots) (Some (translated (row_of windows p (lowest_slot windows p a)) a)) None
 
 -- slot s of partition p is in force with destination q, for packets so marked
 abbrev pub slot_leads : List ℕ → ℕ → ℕ → Bool → ℕ → Bool
@@ -35,13 +33,13 @@ abbrev pub reaches : List ℕ → ℕ → ℕ → Bool → Bool
 reaches windows p q marked = some (slot_leads windows p q marked) slots
 
 -- what the windows of p say of packets so marked that come back from q: they come out in p, if p has some row to q
-unfoldable pub way_back : List ℕ → ℕ → ℕ → Bool → Look
+unfoldable pub way_back : List ℕ → ℕ → ℕ → Bool → Option Translation
 way_back windows p q marked =
-    pick (reaches windows p q false) (Open (record { destination = p; address = 0; marked = reaches windows p q marked })) Shut
+    pick (reaches windows p q false) (Some (record { destination = p; address = 0; marked = reaches windows p q marked })) None
 
 -- what they answer to each question
-abbrev pub look_of : Question → ℕ → List ℕ → Look
-look_of Silent p windows = Shut
+abbrev pub look_of : Question → ℕ → List ℕ → Option Translation
+look_of Silent p windows = None
 look_of (Address a) p windows = look_up windows p a
 look_of (Return q marked) p windows = way_back windows p q marked
 

@@ -1,6 +1,7 @@
 -- One scan for every question: how far a row answers it, and what the scan has seen. The code's own contracts speak of these; what a
 -- reader must believe of the look stands in Look.
-use Rattle.std.specs.Prelude.{ℕ, Bool, false, List}
+use Rattle.std.specs.Prelude.{ℕ, Bool, false, List, ltb, Option, Some, None}
+use Rattle.ground.specs.Pick.{pick}
 use Rattle.ground.specs.Scan.{first, some}
 use Rattle.rows.specs.Row.{slots, row_of, covers, leads}
 use Rattle.rows.specs.declared.Window.{Window}
@@ -33,10 +34,14 @@ slot_fit question p windows s = fit_of question p (row_of windows p s)
 abbrev pub fitting_slot : Question → ℕ → List ℕ → ℕ
 fitting_slot question p windows = first (λ (s : ℕ). fits question p (row_of windows p s)) 0 slots
 
--- that slot, and whether a slot below it answers but for the mark
+-- that slot, or none
+abbrev pub seen_slot : ℕ → Option ℕ
+seen_slot s = pick (ltb s slots) (Some s) None
+
+-- that slot, if there is one, and whether a slot below it answers but for the mark
 abbrev pub seen_of : Question → ℕ → List ℕ → Seen
 seen_of question p windows =
     record {
-      slot = fitting_slot question p windows;
+      slot = seen_slot (fitting_slot question p windows);
       half = some (λ (s : ℕ). half_fits question p (row_of windows p s)) (fitting_slot question p windows);
     }

@@ -6,11 +6,11 @@ ghost use Rattle.look.specs.declared.Question.TheVariants.{Address, Return};
 ghost use Rattle.look.specs.Look.{translated, look_up, way_back, look_of};
 ghost use Rattle.look.specs.Scan.{fit_of, slot_fit, seen_of};
 
-use rows::Window;
+use rows::{Rows, Window};
 
 // What a way makes of a packet: the partition that it comes out in, its address there (0 of a completion, which has none), and
 // whether marked packets may pass by it.
-#[derive(Clone, Copy)]
+#[derive(Clone, Copy, Debug, PartialEq, Eq)]
 pub struct Translation {
     pub destination: u8,
     pub address: u64,
@@ -19,32 +19,25 @@ pub struct Translation {
 
 // What is asked of a partition's rows: nothing; what becomes of an address; or whether packets so marked may come back from
 // another partition.
-#[derive(Clone, Copy)]
+#[derive(Clone, Copy, Debug, PartialEq, Eq)]
 pub enum Question {
     Silent,
     Address(u64),
     Return(u8, bool),
 }
 
-// What they answer: there is no way, or there is this one.
-#[derive(Clone, Copy)]
-pub enum Look {
-    Shut,
-    Open(Translation),
-}
-
 // How far a row answers a question: wholly, or but for the mark.
-#[derive(Clone, Copy)]
-pub struct Fit {
-    pub whole: bool,
-    pub half: bool,
+#[derive(Clone, Copy, Debug, PartialEq, Eq)]
+struct Fit {
+    whole: bool,
+    half: bool,
 }
 
-// What a scan has seen: the lowest slot that answers wholly, 16 where none does; and whether a slot below answers but for the mark.
-#[derive(Clone, Copy)]
-pub struct Seen {
-    pub slot: u8,
-    pub half: bool,
+// What a scan has seen: the lowest slot that answers wholly, if one does; and whether a slot below answers but for the mark.
+#[derive(Clone, Copy, Debug, PartialEq, Eq)]
+struct Seen {
+    slot: Option<u8>,
+    half: bool,
 }
 
 // How far a row, as one of `p`, answers the question.
@@ -67,28 +60,30 @@ fn fit_of(row: Window, p: u8, question: Question) -> Fit
     }
 }
 
-// How far slot `s` of `p` answers.
-fn slot_fit(question: Question, p: u8, windows: &[u64], s: u8) -> Fit
-    ensures { result ≡ slot_fit question p windows.now s }
+// How far slot `s` answers.
+fn slot_fit(question: Question, rows: Rows, s: u8) -> Fit
+    ensures { result ≡ slot_fit question rows.entry.p rows.entry.windows.now s }
 {
-    fit_of(Window::read(windows, p, s), p, question)
+    fit_of(rows.row(s), rows.p, question)
 }
 
 // One scan for every question.
-fn scan(question: Question, p: u8, windows: &[u64]) -> Seen
-    ensures { result ≡ seen_of question p windows.now }
+#[tactic(auto, using(crate::proofs::Laws::Scan::turns))]
+fn scan(question: Question, rows: Rows) -> Seen
+    ensures { result ≡ seen_of question rows.entry.p rows.entry.windows.now }
 {
     let mut half = false;
-    let mut s: u8 = 0;
-    while s < Window::SLOTS {
-        let fit = slot_fit(question, p, windows, s);
+    for s in 0..Window::SLOTS {
+        let fit = slot_fit(question, rows, s);
         if fit.whole {
-            return Seen { slot: s, half };
+            return Seen {
+                slot: Some(s),
+                half,
+            };
         }
-        half = half | fit.half;
-        s += 1;
+        half |= fit.half;
     }
-    Seen { slot: s, half }
+    Seen { slot: None, half }
 }
 
 // "Address − base + target"
@@ -104,47 +99,36 @@ fn translate(w: Window, a: u64) -> Translation
 }
 
 // The window that covers an address is the one of the slot that was seen.
-fn over(seen: Seen, p: u8, a: u64, windows: &[u64]) -> Look
-    requires { seen ≡ seen_of (Address a) p windows.now }
-    ensures { result ≡ look_up windows.now p a }
+#[tactic(auto, using(crate::proofs::Laws::Scan::over_seen))]
+fn over(seen: Seen, a: u64, rows: Rows) -> Option<Translation>
+    requires { seen ≡ seen_of (Address a) rows.p rows.windows.now }
+    ensures { result ≡ look_up rows.entry.windows.now rows.entry.p a }
 {
-    let s = seen.slot;
-    if s < Window::SLOTS {
-        return Look::Open(translate(Window::read(windows, p, s), a));
-    }
-    Look::Shut
+    let s = seen.slot?;
+    Some(translate(rows.row(s), a))
 }
 
 // The way back is there where some row leads: for packets so marked where one answers wholly.
-fn back(seen: Seen, p: u8) -> Look
+#[tactic(auto, using(crate::proofs::Laws::Scan::back_seen))]
+fn back(seen: Seen, p: u8) -> Option<Translation>
     ensures { (q : ℕ) (marked : Bool) (windows : List ℕ) → seen ≡ seen_of (Return q marked) p windows → result ≡ way_back windows p q marked }
 {
-    let whole = seen.slot < Window::SLOTS;
-    if whole | seen.half {
-        return Look::Open(Translation {
-            destination: p,
-            address: 0,
-            marked: whole,
-        });
-    }
-    Look::Shut
+    let marked = seen.slot.is_some();
+    (marked | seen.half).then_some(Translation {
+        destination: p,
+        address: 0,
+        marked,
+    })
 }
 
-// What was seen, as the answer to the question.
-fn answered(question: Question, seen: Seen, p: u8, windows: &[u64]) -> Look
-    requires { seen ≡ seen_of question p windows.now }
-    ensures { result ≡ look_of question p windows.now }
+// Asks the rows of a partition: `None` where there is no way.
+pub fn ask(question: Question, rows: Rows) -> Option<Translation>
+    ensures { result ≡ look_of question rows.entry.p rows.entry.windows.now }
 {
+    let seen = scan(question, rows);
     match question {
-        Question::Silent => Look::Shut,
-        Question::Address(a) => over(seen, p, a, windows),
-        Question::Return(_, _) => back(seen, p),
+        Question::Silent => None,
+        Question::Address(a) => over(seen, a, rows),
+        Question::Return(_, _) => back(seen, rows.p),
     }
-}
-
-// Asks the rows of `p`.
-pub fn ask(question: Question, p: u8, windows: &[u64]) -> Look
-    ensures { result ≡ look_of question p windows.now }
-{
-    answered(question, scan(question, p, windows), p, windows)
 }

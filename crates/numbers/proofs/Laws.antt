@@ -1,4 +1,3 @@
 -- Laws of the table of numbers.
-pub mod Table
 pub mod Frame
 pub mod Entries

@@ -1,13 +1,11 @@
 -- "Numbers": the mapping entries, their look-up and the calls that edit them.
-use Rattle.std.specs.Prelude.{ℕ, ◌+◌, ◌*◌, Bool, false, not, ◌&&◌, ◌||◌, List, length, get_or, set, eqb, ltb}
+use Rattle.std.specs.Prelude.{ℕ, ◌+◌, ◌*◌, Bool, false, not, ◌&&◌, ◌||◌, List, length, get_or, set, eqb, ltb, Option, Some, None}
 use Rattle.ground.specs.Pick.{pick}
 use Rattle.ground.specs.Field.{field, place}
 use Rattle.ground.specs.Scan.{first}
 use Rattle.ground.specs.Table.{wrong_table, edited}
 use Rattle.numbers.specs.declared.entries.Entry.{Entry}
 use Rattle.numbers.specs.declared.entries.Entry.TheVariants.{Free, Held}
-use Rattle.numbers.specs.declared.entries.Found.{Found}
-use Rattle.numbers.specs.declared.entries.Found.TheVariants.{Nothing, At}
 
 -- "80 numbers of 32 bits"
 abbrev pub table_length : ℕ
@@ -46,9 +44,9 @@ slot_holds numbers p id s = holds_id (entry_at numbers (entry_index p s)) id
 abbrev pub lowest_slot : List ℕ → ℕ → ℕ → ℕ
 lowest_slot numbers p id = first (slot_holds numbers p id) 0 slots
 
--- "with index i in 0..63"
-abbrev pub entry_of : List ℕ → ℕ → ℕ → Found
-entry_of numbers p id = pick (ltb (lowest_slot numbers p id) slots) (At (entry_index p (lowest_slot numbers p id))) Nothing
+-- the index of the entry, "with index i in 0..63", or nothing
+abbrev pub entry_of : List ℕ → ℕ → ℕ → Option ℕ
+entry_of numbers p id = pick (ltb (lowest_slot numbers p id) slots) (Some (entry_index p (lowest_slot numbers p id))) None
 
 -- slot s is not this slot, and holds this ID
 abbrev pub other_holds : List ℕ → ℕ → ℕ → ℕ → ℕ → Bool

@@ -1,13 +1,13 @@
 // "Numbers": the mapping entries, what a word of one means, the look-up, and the calls that edit them.
 ghost use Rattle.std.specs.Prelude.{◌≡◌};
+ghost use Rattle.ground.specs.Table.{call_number};
 ghost use Rattle.numbers.specs.Entries.{
   look_at,
+  entry_index,
   holds_id,
   slot_holds,
-  lowest_slot,
   entry_of,
   entry_at,
-  other_holds,
   held_elsewhere,
   wrong_entry,
   set_entry_number,
@@ -17,24 +17,7 @@ ghost use Rattle.numbers.specs.Entries.{
 };
 
 use ground::table;
-use ground::table::{DONE, WRONG_CALL};
-
-// The refusal of setting an entry besides 1, by its number: "another slot of the owner holds this ID".
-pub const REPETITION: u32 = 12;
-
-// What a mapping word says.
-#[derive(Clone, Copy)]
-pub enum Entry {
-    Free,
-    Held(u16),
-}
-
-// Where a requester ID is held: nowhere, or at an index among all entries.
-#[derive(Clone, Copy)]
-pub enum Found {
-    Nothing,
-    At(u16),
-}
+use ground::table::Refused;
 
 // The table, and its sizes.
 #[derive(Clone, Copy)]
@@ -48,7 +31,22 @@ impl Numbers {
     pub const SLOTS: u8 = 4;
 }
 
+// What a mapping word says: "either free or held with the ID".
+#[derive(Clone, Copy, Debug, PartialEq, Eq)]
+pub enum Entry {
+    Free,
+    Held(u16),
+}
+
+// A partition, as the table of numbers has it.
+#[derive(Clone, Copy, Debug)]
+pub struct Partition<'a> {
+    pub numbers: &'a [u32],
+    pub p: u8,
+}
+
 // "A look at an entry is given its word": an ill-formed word is free.
+#[tactic(auto, unfolding(ground::specs::Pick::pick, crate::specs::Entries::look_at))]
 pub fn look(word: u32) -> Entry
     ensures { result ≡ look_at word }
 {
@@ -64,72 +62,47 @@ impl Entry {
     pub fn holds(self, id: u16) -> bool
         ensures { result ≡ holds_id self id }
     {
-        match self {
-            Entry::Free => false,
-            Entry::Held(held) => held == id,
-        }
+        self == Entry::Held(id)
     }
+}
+
+// Slot `s` of partition `p` among all entries.
+fn entry_index(p: u8, s: u8) -> u16
+    ensures { result ≡ entry_index p s }
+{
+    u16::from(Numbers::SLOTS) * u16::from(p) + u16::from(s)
 }
 
 // The entry with this index among all of them.
 pub fn entry_at(numbers: &[u32], i: u16) -> Entry
     ensures { result ≡ entry_at numbers.now i }
 {
-    look(table::word_32(numbers, i as usize))
+    look(table::word(numbers, usize::from(i), 0))
 }
 
-// Slot `s` of partition `p` holds this ID.
-fn slot_holds(numbers: &[u32], p: u8, id: u16, s: u8) -> bool
-    ensures { result ≡ slot_holds numbers.now p id s }
-{
-    entry_at(numbers, 4 * (p as u16) + (s as u16)).holds(id)
-}
-
-// The lowest slot of `p` that holds this ID; 4 where none does.
-fn lowest_slot(numbers: &[u32], p: u8, id: u16) -> u8
-    ensures { result ≡ lowest_slot numbers.now p id }
-{
-    let mut s: u8 = 0;
-    while s < Numbers::SLOTS {
-        if slot_holds(numbers, p, id, s) {
-            return s;
-        }
-        s += 1;
+impl Partition<'_> {
+    // Slot `s` holds this ID.
+    fn slot_holds(self, id: u16, s: u8) -> bool
+        ensures { result ≡ slot_holds self.entry.numbers.now self.entry.p id s }
+    {
+        entry_at(self.numbers, entry_index(self.p, s)).holds(id)
     }
-    s
-}
 
-// "The entry is the lowest slot of p holding the requester ID, with index i".
-pub fn find(numbers: &[u32], p: u8, id: u16) -> Found
-    ensures { result ≡ entry_of numbers.now p id }
-{
-    let s = lowest_slot(numbers, p, id);
-    if s < Numbers::SLOTS {
-        Found::At(4 * (p as u16) + (s as u16))
-    } else {
-        Found::Nothing
+    // "The entry is the lowest slot of p holding the requester ID, with index i".
+    pub fn find(self, id: u16) -> Option<u16>
+        ensures { result ≡ entry_of self.entry.numbers.now self.entry.p id }
+    {
+        (0..Numbers::SLOTS)
+            .find(|s| self.slot_holds(id, *s))
+            .map(|s| entry_index(self.p, s))
     }
-}
 
-// Slot `s` is not `slot`, and holds this ID.
-fn other_holds(numbers: &[u32], p: u8, slot: u8, id: u16, s: u8) -> bool
-    ensures { result ≡ other_holds numbers.now p slot id s }
-{
-    (s != slot) & slot_holds(numbers, p, id, s)
-}
-
-// "Another slot of the owner holds this ID".
-fn held_elsewhere(numbers: &[u32], p: u8, slot: u8, id: u16) -> bool
-    ensures { result ≡ held_elsewhere numbers.now p slot id }
-{
-    let mut s: u8 = 0;
-    while s < Numbers::SLOTS {
-        if other_holds(numbers, p, slot, id, s) {
-            return true;
-        }
-        s += 1;
+    // "Another slot of the owner holds this ID".
+    fn held_elsewhere(self, slot: u8, id: u16) -> bool
+        ensures { result ≡ held_elsewhere self.entry.numbers.now self.entry.p slot id }
+    {
+        (0..Numbers::SLOTS).any(|s| (s != slot) & self.slot_holds(id, s))
     }
-    false
 }
 
 // Refusal 1 of the two calls below: no such partition or slot, or a table of another length.
@@ -140,32 +113,35 @@ fn wrong_entry(p: u32, slot: u32, have: usize) -> bool
 }
 
 // Sets an entry: slot `slot` of partition `p` holds this ID from now on.
-pub fn set_entry(p: u32, slot: u32, id: u16, numbers: &mut [u32]) -> u32
-    ensures value { result ≡ set_entry_number p slot id numbers.old }
+#[tactic(auto, unfolding(ground::specs::Pick::pick, ground::specs::Table::edited, crate::specs::Entries::set_entry_number))]
+pub fn set_entry(p: u32, slot: u32, id: u16, numbers: &mut [u32]) -> Result<(), Refused>
+    ensures value { call_number result ≡ set_entry_number p slot id numbers.old }
     ensures numbers_after { numbers.new ≡ set_entry_after p slot id numbers.old }
 {
     if wrong_entry(p, slot, numbers.len()) {
-        return WRONG_CALL;
+        return Err(Refused::WrongCall);
     }
-    if held_elsewhere(numbers, p as u8, slot as u8, id) {
-        return REPETITION;
-    }
-    table::put_32(
+    let owner = Partition {
         numbers,
-        4 * (p as usize) + (slot as usize),
-        0x0001_0000 + (id as u32),
-    );
-    DONE
+        p: p as u8,
+    };
+    if owner.held_elsewhere(slot as u8, id) {
+        return Err(Refused::Repetition);
+    }
+    let i = entry_index(p as u8, slot as u8);
+    table::put(numbers, usize::from(i), 0x0001_0000 + u32::from(id));
+    Ok(())
 }
 
 // Frees an entry: its word becomes 0.
-pub fn free_entry(p: u32, slot: u32, numbers: &mut [u32]) -> u32
-    ensures value { result ≡ free_entry_number p slot numbers.old }
+#[tactic(auto, unfolding(ground::specs::Pick::pick, ground::specs::Table::edited, crate::specs::Entries::free_entry_number))]
+pub fn free_entry(p: u32, slot: u32, numbers: &mut [u32]) -> Result<(), Refused>
+    ensures value { call_number result ≡ free_entry_number p slot numbers.old }
     ensures numbers_after { numbers.new ≡ free_entry_after p slot numbers.old }
 {
     if wrong_entry(p, slot, numbers.len()) {
-        return WRONG_CALL;
+        return Err(Refused::WrongCall);
     }
-    table::put_32(numbers, 4 * (p as usize) + (slot as usize), 0);
-    DONE
+    table::put(numbers, usize::from(entry_index(p as u8, slot as u8)), 0);
+    Ok(())
 }

@@ -1,12 +1,11 @@
 -- A call of `pass`: what it is lent, and what its answer depends on.
-use Rattle.std.specs.Prelude.{ℕ, Bool, List, length}
+use Rattle.std.specs.Prelude.{ℕ, Bool, List, length, Option}
 use Rattle.header.specs.Words.{header_of}
 use Rattle.header.specs.Fields.{data_of}
 use Rattle.header.specs.declared.words.Header.{Header}
 use Rattle.look.specs.Look.{look_of, reaches, CoveredBy, WayTo}
 use Rattle.look.specs.declared.Translation.{Translation}
 use Rattle.look.specs.declared.Question.{Question}
-use Rattle.look.specs.declared.Look.{Look}
 
 -- "The lent tables" that passing reads: words of 64 bits, and words of 32 bits
 pub record Tables : Type 0 where
@@ -18,7 +17,7 @@ abbrev pub lent : List ℕ → List ℕ → Tables
 lent windows numbers = record { windows = windows; numbers = numbers }
 
 -- what the windows of p answer to a question
-abbrev pub looked : Tables → Question → ℕ → Look
+abbrev pub looked : Tables → Question → ℕ → Option Translation
 looked tables question p = look_of question p tables.windows
 
 -- p has some row in force to q, for packets so marked

@@ -1,20 +1,18 @@
 -- "A number is given exactly in its case": what holds where a packet goes each way. Each record is one fact more than the one before, in
 -- the list's order. `exactly`, of proofs/Laws/Exactly, says of every way that it is found exactly where what stands here holds.
-use Rattle.std.specs.Prelude.{ℕ, ◌/◌, ◌%◌, true, false, ◌≡◌, eqb}
+use Rattle.std.specs.Prelude.{ℕ, ◌/◌, ◌%◌, true, false, ◌≡◌, eqb, Some, None, Result, Ok, Err}
 use Rattle.header.specs.Fields.{is_poisoned, requester_id, address, completion_requester_id}
 use Rattle.tlp.specs.Form.{form_of}
-use Rattle.tlp.specs.declared.form.Packet.TheVariants.{Request, Completion, Broken}
+use Rattle.tlp.specs.declared.form.Packet.TheVariants.{Request, Completion}
 use Rattle.look.specs.declared.Translation.{Translation}
 use Rattle.look.specs.declared.Question.TheVariants.{Address}
-use Rattle.look.specs.declared.Look.TheVariants.{Shut, Open}
 use Rattle.numbers.specs.Entries.{entry_of, entry_at}
 use Rattle.numbers.specs.Buses.{bus_of, is_active}
 use Rattle.numbers.specs.declared.entries.Entry.TheVariants.{Free, Held}
-use Rattle.numbers.specs.declared.entries.Found.TheVariants.{Nothing, At}
 use Rattle.routing.specs.declared.refusal.Refusal.{Refusal}
-use Rattle.routing.specs.declared.refusal.Refusal.TheVariants.{WrongCall, SenderInactive, Broken as BrokenBy, Poisoned, NoWindow, NoEntry, DestinationInactive, NotPassable}
+use Rattle.routing.specs.declared.refusal.Refusal.TheVariants.{WrongCall, SenderInactive, Broken, Poisoned, NoWindow, NoEntry, DestinationInactive, NotPassable}
 use Rattle.routing.specs.declared.rule.Way.{Way}
-use Rattle.routing.specs.declared.rule.Way.TheVariants.{Stop, Goes, Comes}
+use Rattle.routing.specs.declared.rule.Way.TheVariants.{Goes, Comes}
 use Rattle.routing.specs.Call.{Asked, looked, reached}
 use Rattle.routing.specs.Rule.{wrong_call, mapped_id, is_stopped}
 
@@ -26,12 +24,12 @@ pub record Entered (a : Asked) : Type 0 where
 -- a request that breaks no rule of form
 pub record Requests (a : Asked) : Type 0 where
   pub entered : Entered a
-  pub request : form_of a.size a.head ≡ Request a.head
+  pub request : form_of a.size a.head ≡ Ok (Request a.head)
 
 -- not 6: the windows of the sender open to t at its address
 pub record Opened (a : Asked) (t : Translation) : Type 0 where
   pub requests : Requests a
-  pub opened : looked a.tables (Address (address a.head)) a.sender ≡ Open t
+  pub opened : looked a.tables (Address (address a.head)) a.sender ≡ Some t
 
 -- not 5: it is let pass, marked as it is
 pub record Admitted (a : Asked) (t : Translation) : Type 0 where
@@ -41,12 +39,12 @@ pub record Admitted (a : Asked) (t : Translation) : Type 0 where
 -- not 7: entry i is the lowest of the sender's that holds its requester ID
 pub record Named (a : Asked) (t : Translation) (i : ℕ) : Type 0 where
   pub admitted : Admitted a t
-  pub entry : entry_of a.tables.numbers a.sender (requester_id a.head) ≡ At i
+  pub entry : entry_of a.tables.numbers a.sender (requester_id a.head) ≡ Some i
 
 -- a completion that breaks no rule of form
 pub record Returns (a : Asked) : Type 0 where
   pub entered : Entered a
-  pub completion : form_of a.size a.head ≡ Completion a.head
+  pub completion : form_of a.size a.head ≡ Ok (Completion a.head)
 
 -- its requester ID is a number of the sender's bus, that of entry i
 pub record Mapped (a : Asked) (i : ℕ) : Type 0 where
@@ -87,15 +85,15 @@ pub data IsMarked (a : Asked) : Type 0 where
 abbrev pub Why : Asked → Refusal → Type 0
 Why a WrongCall = wrong_call a.sender a.tables a.logs a.out ≡ true
 Why a SenderInactive = (wrong_call a.sender a.tables a.logs a.out ≡ false) × (is_active a.tables.numbers a.sender ≡ false)
-Why a (BrokenBy r) = Entered a × (form_of a.size a.head ≡ Broken r)
-Why a NoWindow = Requests a × (looked a.tables (Address (address a.head)) a.sender ≡ Shut)
+Why a (Broken r) = Entered a × (form_of a.size a.head ≡ Err r)
+Why a NoWindow = Requests a × (looked a.tables (Address (address a.head)) a.sender ≡ None)
 Why a Poisoned = IsMarked a
-Why a NoEntry = (t : Translation) × Admitted a t × (entry_of a.tables.numbers a.sender (requester_id a.head) ≡ Nothing)
+Why a NoEntry = (t : Translation) × Admitted a t × (entry_of a.tables.numbers a.sender (requester_id a.head) ≡ None)
 Why a DestinationInactive = (t : Translation) × (i : ℕ) × Named a t i × (is_active a.tables.numbers t.destination ≡ false)
 Why a NotPassable = Returns a × NoWayBack a
 
 -- what holds at each way
-abbrev pub Holds : Asked → Way → Type 0
-Holds a (Stop r) = Why a r
-Holds a (Goes t i) = Named a t i × (is_active a.tables.numbers t.destination ≡ true)
-Holds a (Comes id i) = Passable a id i × (is_stopped a.head (reached a.tables (i / 4) a.sender (is_poisoned a.head)) ≡ false)
+abbrev pub Holds : Asked → Result Way Refusal → Type 0
+Holds a (Err r) = Why a r
+Holds a (Ok (Goes t i)) = Named a t i × (is_active a.tables.numbers t.destination ≡ true)
+Holds a (Ok (Comes id i)) = Passable a id i × (is_stopped a.head (reached a.tables (i / 4) a.sender (is_poisoned a.head)) ≡ false)

@@ -1,2 +1,2 @@
--- The functions' proofs stand each in a folder of its function's name.
+-- The check finds each function's proof by itself, from the laws that the function names.
 pub mod Laws

@@ -1,8 +1,9 @@
-// "Windows": a row by value, its fields, and when it is in force.
+// "Windows": a row by value, its fields, and when it is in force; and the rows of a partition.
 #![tactic(auto)]
 
 ghost use Rattle.std.specs.Prelude.{◌≡◌, ◌<◌};
 ghost use Rattle.rows.specs.Row.{
+  row_at,
   row_of,
   exponent,
   destination,
@@ -20,8 +21,10 @@ ghost use Rattle.rows.specs.Row.{
   leads,
 };
 
+use ground::table;
+
 // A row: "each row is base, target, control".
-#[derive(Clone, Copy)]
+#[derive(Clone, Copy, Debug, PartialEq, Eq)]
 pub struct Window {
     pub base: u64,
     pub target: u64,
@@ -36,16 +39,11 @@ impl Window {
     // Words a row.
     pub const WIDTH: usize = 3;
 
-    // "Row 16·p + s is slot s of partition p".
-    pub fn read(windows: &[u64], p: u8, s: u8) -> Window
-        ensures { result ≡ row_of windows.now p s }
+    // Where "row 16·p + s", which "is slot s of partition p", begins in the table.
+    pub fn index(p: u8, s: u8) -> usize
+        ensures { result ≡ row_at p s }
     {
-        let at = Window::WIDTH * (16 * (p as usize) + (s as usize));
-        Window {
-            base: ground::table::word_64(windows, at),
-            target: ground::table::word_64(windows, at + 1),
-            control: ground::table::word_64(windows, at + 2),
-        }
+        Window::WIDTH * (usize::from(Window::SLOTS) * usize::from(p) + usize::from(s))
     }
 
     // "Bits 7:0 exponent k"
@@ -91,24 +89,21 @@ impl Window {
     }
 
     // The row is in force, as one of partition `p`.
+    #[tactic(auto, unfolding(crate::specs::Row::in_force))]
     pub fn in_force(self, p: u8) -> bool
         ensures { result ≡ in_force p self }
     {
-        if self.is_plain() {
-            let k = self.exponent();
-            return aligned(self.base, k) & aligned(self.target, k) & (self.destination() != p);
-        }
-        false
+        let k = self.exponent();
+        self.is_plain()
+            && (aligned(self.base, k) & aligned(self.target, k) & (self.destination() != p))
     }
 
     // The row is in force, and covers this address.
+    #[tactic(auto, using(crate::proofs::Laws::Row::force_small))]
     pub fn covers(self, p: u8, a: u64) -> bool
         ensures { result ≡ covers p a self }
     {
-        if self.in_force(p) {
-            return spans(self.base, self.exponent(), a);
-        }
-        false
+        self.in_force(p) && spans(self.base, self.exponent(), a)
     }
 
     // A packet passes by the row as far as its mark goes: it has none, or the row has the bit.
@@ -126,6 +121,27 @@ impl Window {
     }
 }
 
+// The sixteen rows of a partition.
+#[derive(Clone, Copy, Debug)]
+pub struct Rows<'a> {
+    pub windows: &'a [u64],
+    pub p: u8,
+}
+
+impl Rows<'_> {
+    // "Slot s (0..15)": its row.
+    pub fn row(self, s: u8) -> Window
+        ensures { result ≡ row_of self.entry.windows.now self.entry.p s }
+    {
+        let at = Window::index(self.p, s);
+        Window {
+            base: table::word(self.windows, at, 0),
+            target: table::word(self.windows, at + 1, 0),
+            control: table::word(self.windows, at + 2, 0),
+        }
+    }
+}
+
 // "12 ≤ k ≤ 39"
 fn is_sized(k: u32) -> bool
     ensures { result ≡ is_sized k }
@@ -137,6 +153,7 @@ fn is_sized(k: u32) -> bool
 // size". The multiples of 2^k are the numbers whose k lowest bits are 0. So count the zeros below the
 // lowest 1: 0x9010_0000 has 20 of them, and fits 2^20 and every smaller size, but not 2^21. Zero has no 1
 // to end the count: all its 64 bits are counted, and that is enough for every k.
+#[tactic(auto, using(crate::proofs::Laws::Aligned::enough_zeros_fit))]
 fn aligned(x: u64, k: u32) -> bool
     requires { k < 64 }
     ensures { result ≡ aligned x k }
@@ -145,22 +162,18 @@ fn aligned(x: u64, k: u32) -> bool
 }
 
 // A window's size is one, and base and target are multiples of it: "12 ≤ k ≤ 39, base and target are multiples of 2^k".
+#[tactic(auto, unfolding(crate::specs::Row::is_fit))]
 pub fn is_fit(base: u64, target: u64, k: u32) -> bool
     ensures { result ≡ is_fit base target k }
 {
-    if is_sized(k) {
-        return aligned(base, k) & aligned(target, k);
-    }
-    false
+    is_sized(k) && (aligned(base, k) & aligned(target, k))
 }
 
 // The address lies between the base and base + 2^k − 1.
+#[tactic(auto, using(crate::proofs::Laws::Row::shifted), unfolding(crate::specs::Row::spans))]
 fn spans(base: u64, k: u32, a: u64) -> bool
     requires { k < 64 }
     ensures { result ≡ spans base k a }
 {
-    if a < base {
-        return false;
-    }
-    a - base < 1 << k
+    base <= a && a - base < 1 << k
 }

@@ -1,54 +1,35 @@
 // As bench, from any sender: the first argument is the partition, standard input the packet.
 #![tactic(auto)]
 
+ghost use Rattle.std.specs.Prelude.{◌<◌, IfSome};
+
 use desk::passing;
 use std::env::{Env, FillError};
 use std::io;
 
-// A sender, or no number of one or two digits.
-#[derive(Clone, Copy)]
-enum Sender {
-    From(u32),
-    Wrong,
+// A decimal digit.
+fn digit(byte: u8) -> Option<u32>
+    ensures { IfSome result (λ d. d < 10) }
+{
+    char::from(byte).to_digit(10)
 }
 
-// A decimal digit, or 10.
-fn digit(byte: u8) -> u8 {
-    if byte < 48 {
-        return 10;
+// The sender that a word names, by one or two digits.
+fn parsed(word: &[u8]) -> Option<u32> {
+    match word {
+        &[ones] => digit(ones),
+        &[tens, ones] => Some(10 * digit(tens)? + digit(ones)?),
+        _ => None,
     }
-    if 57 < byte {
-        return 10;
-    }
-    byte - 48
-}
-
-// The number of two digits.
-fn of_digits(tens: u8, ones: u8) -> Sender {
-    if (9 < tens) | (9 < ones) {
-        return Sender::Wrong;
-    }
-    Sender::From(10 * (tens as u32) + (ones as u32))
-}
-
-// The first `n` bytes of an argument as a sender.
-fn parsed(text: [u8; 3], n: usize) -> Sender {
-    if n == 1 {
-        return of_digits(0, digit(text[0]));
-    }
-    if n == 2 {
-        return of_digits(digit(text[0]), digit(text[1]));
-    }
-    Sender::Wrong
 }
 
 // The one word that the program was started with, as a sender.
-fn named_sender(rt: &impl Env) -> Sender {
+fn named_sender(rt: &impl Env) -> Option<u32> {
     let mut text = [0u8; 3];
-    let n = rt.arg(1, &mut text).unwrap_or(0);
+    let n = rt.arg(1, &mut text).ok()?;
     match rt.arg(2, &mut [0u8; 3]) {
-        Err(FillError::NotPresent) => parsed(text, n),
-        _ => Sender::Wrong,
+        Err(FillError::NotPresent) => parsed(&text[..n]),
+        _ => None,
     }
 }
 
@@ -59,14 +40,9 @@ fn send(rt: &(impl Input + Print), p: u32) -> io::Result<()> {
     passing::pass_input(rt, p, &mut packet, &mut out)
 }
 
-// Says what is wanted.
-fn refuse(rt: &impl Print) -> io::Result<()> {
-    rt.write_all(b"send: one word is wanted, the sender, as one or two decimal digits\n")
-}
-
 fn main(rt: HostRuntime) -> io::Result<()> {
     match named_sender(&rt) {
-        Sender::From(p) => send(&rt, p),
-        Sender::Wrong => refuse(&rt),
+        Some(p) => send(&rt, p),
+        None => println!(rt; "send: one word is wanted, the sender, as one or two decimal digits"),
     }
 }

@@ -3,6 +3,7 @@ ghost use Rattle.std.specs.Prelude.{◌≡◌};
 ghost use Rattle.sheet.specs.Tables.{windows, numbers, logs};
 
 // Partition 1, slot 0: to 0. Slot 1: to 3. All else is 0.
+#[tactic(auto, unfolding(crate::specs::Tables::windows))]
 pub fn windows() -> [u64; 768]
     ensures { result ≡ windows }
 {
@@ -16,6 +17,7 @@ pub fn windows() -> [u64; 768]
 }
 
 // Partition 1, entry slot 2, holds 0300. Buses 0 -> 1, 1 -> 2, 2 -> 2; the rest inactive.
+#[tactic(auto, unfolding(crate::specs::Tables::numbers))]
 pub fn numbers() -> [u32; 80]
     ensures { result ≡ numbers }
 {
@@ -24,23 +26,12 @@ pub fn numbers() -> [u32; 80]
     table[64] = 1;
     table[65] = 2;
     table[66] = 2;
-    table[67] = 256;
-    table[68] = 256;
-    table[69] = 256;
-    table[70] = 256;
-    table[71] = 256;
-    table[72] = 256;
-    table[73] = 256;
-    table[74] = 256;
-    table[75] = 256;
-    table[76] = 256;
-    table[77] = 256;
-    table[78] = 256;
-    table[79] = 256;
+    table[67..].fill(256);
     table
 }
 
 // Empty logs.
+#[tactic(auto, unfolding(crate::specs::Tables::logs))]
 pub fn logs() -> [u32; 96]
     ensures { result ≡ logs }
 {

@@ -1,3 +1,2 @@
 -- Laws of the calls for C.
 pub mod Call
-pub mod Eight

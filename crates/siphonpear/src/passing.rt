@@ -1,10 +1,10 @@
 // Passing a packet for C: the number is returned, and the rest of the answer is eight words over the start of a lent buffer.
 ghost use Rattle.std.specs.Prelude.{◌≡◌, ◌≤◌, length};
 ghost use Rattle.routing.specs.Call.{lent, call_of};
-ghost use Rattle.switch.specs.Answer.{on_paper, number_of, length_of};
+ghost use Rattle.switch.specs.Answer.{on_paper, length_of};
 ghost use Rattle.siphonpear.specs.Abi.{record_words, answer_words, answer_after, Called};
 
-use header::words::Header;
+use routing::refusal::Refusal;
 use switch::answer::{Outcome, Sent};
 use switch::pass;
 
@@ -18,31 +18,23 @@ pub const ANSWERED: u32 = 1;
 
 pub const DROPPED: u32 = 2;
 
-// What a call returns: 0 for crossed, else the refusal's number.
-fn number(outcome: Outcome) -> u32
-    ensures { result ≡ number_of (on_paper outcome) }
-{
-    match outcome {
-        Outcome::Crossed(_) => 0,
-        Outcome::Answered(refusal, _) => refusal.number(),
-        Outcome::Dropped(refusal) => refusal.number(),
-    }
-}
-
 // The outcome's number and its record, as eight words.
+#[tactic(auto, using(wire::proofs::Laws::Write::over_fits))]
 fn put_record(outcome: u32, sent: Sent, answer: &mut [u32])
     requires { (8 ≤ length answer.old) × (sent.length ≤ 4112) }
     ensures { answer.new ≡ answer_after (record_words outcome sent) answer.old }
 {
     let h = sent.header;
-    answer[0] = outcome;
-    answer[1] = sent.partition as u32;
-    answer[2] = sent.length as u32;
-    answer[3] = sent.words as u32;
-    answer[4] = h.w0;
-    answer[5] = h.w1;
-    answer[6] = h.w2;
-    answer[7] = h.w3;
+    answer[..ANSWER_LENGTH].copy_from_slice(&[
+        outcome,
+        u32::from(sent.partition),
+        sent.length as u32,
+        u32::from(sent.words),
+        h.w0,
+        h.w1,
+        h.w2,
+        h.w3,
+    ]);
 }
 
 // The words of an answer: a packet that was dropped has no record.
@@ -53,21 +45,7 @@ fn put_answer(outcome: Outcome, answer: &mut [u32])
     match outcome {
         Outcome::Crossed(sent) => put_record(CROSSED, sent, answer),
         Outcome::Answered(_, sent) => put_record(ANSWERED, sent, answer),
-        Outcome::Dropped(_) => {
-            let header = Header {
-                w0: 0,
-                w1: 0,
-                w2: 0,
-                w3: 0,
-            };
-            let none = Sent {
-                header,
-                words: 0,
-                partition: 0,
-                length: 0,
-            };
-            put_record(DROPPED, none, answer);
-        }
+        Outcome::Dropped(_) => put_record(DROPPED, Sent::default(), answer),
     }
 }
 
@@ -84,9 +62,9 @@ pub fn siphon_pass(
     ensures { Called (call_of p packet.now (lent windows.now numbers.old) logs.old out.old) answer.old result out.new logs.new numbers.new answer.new }
 {
     if answer.len() < ANSWER_LENGTH {
-        return 1;
+        return u32::from(Refusal::WrongCall);
     }
     let outcome = pass::pass(p, packet, windows, numbers, logs, out);
     put_answer(outcome, answer);
-    number(outcome)
+    u32::from(outcome)
 }

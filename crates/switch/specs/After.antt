@@ -1,14 +1,13 @@
 -- What passing changes: Out and the sender's log, as functions of the answer, the packet's header words and its data.
-use Rattle.std.specs.Prelude.{ℕ, ◌&&◌, List, [], ◌≡◌, eqb, ltb, leb}
+use Rattle.std.specs.Prelude.{ℕ, ◌&&◌, List, [], ◌≡◌, eqb, ltb, leb, Option, Some, None}
 use Rattle.ground.specs.Pick.{pick}
 use Rattle.header.specs.declared.words.Header.{Header}
 use Rattle.wire.specs.Write.{over, packet_list}
 use Rattle.logs.specs.Logs.{recorded}
+use Rattle.logs.specs.declared.Bit.{Bit}
 use Rattle.logs.specs.declared.Bit.TheVariants.{Poisoned, UnexpectedCompletion, Malformed, Unsupported}
 use Rattle.routing.specs.Call.{Call, asked, head_of, body_of}
 use Rattle.switch.specs.Answer.{Answer, crossed, answered, dropped, pass_rule}
-use Rattle.switch.specs.declared.after.Logged.{Logged}
-use Rattle.switch.specs.declared.after.Logged.TheVariants.{No, Under}
 
 -- what is written: a packet that crosses with its data, an answer alone, nothing of one that is dropped
 abbrev pub written_of : Answer → List ℕ → List ℕ
@@ -21,18 +20,18 @@ abbrev pub out_after : Answer → List ℕ → List ℕ → List ℕ
 out_after a body out = over out 0 (written_of a body)
 
 -- the list's column "Log bit": none for 1 and 2, 12 for 5, 16 for 9, and 20 for 4, 6, 7, 8; R-4: 18 "stays", for 31 to 36
-unfoldable pub log_bit : ℕ → Logged
+unfoldable pub log_bit : ℕ → Option Bit
 log_bit n =
-    pick (ltb n 3) No
-    (pick (leb 31 n && leb n 36) (Under Malformed)
-    (pick (eqb n 5) (Under Poisoned)
-    (pick (eqb n 9) (Under UnexpectedCompletion)
-    (Under Unsupported))))
+    pick (ltb n 3) None
+    (pick (leb 31 n && leb n 36) (Some Malformed)
+    (pick (eqb n 5) (Some Poisoned)
+    (pick (eqb n 9) (Some UnexpectedCompletion)
+    (Some Unsupported))))
 
 -- the log with this error in the sender's row
-abbrev pub logged : Logged → ℕ → Header → List ℕ → List ℕ
-logged No p h logs = logs
-logged (Under b) p h logs = recorded p b h logs
+abbrev pub logged : Option Bit → ℕ → Header → List ℕ → List ℕ
+logged None p h logs = logs
+logged (Some b) p h logs = recorded p b h logs
 
 -- "Log, in the sender's row only": an answered packet is logged as well as a dropped one, a crossing one is not
 abbrev pub logs_after : Answer → ℕ → Header → List ℕ → List ℕ

@@ -1,5 +1,5 @@
 -- "What comes back", in the paper's numbers: the answer of each way.
-use Rattle.std.specs.Prelude.{ℕ, ◌/◌, ◌&&◌, List}
+use Rattle.std.specs.Prelude.{ℕ, ◌/◌, ◌&&◌, List, Result, Ok, Err}
 use Rattle.ground.specs.Pick.{pick}
 use Rattle.header.specs.Kind.{is_read, has_four_words}
 use Rattle.header.specs.Fields.{kind, total_bytes}
@@ -12,7 +12,7 @@ use Rattle.switch.specs.declared.answer.Sent.{Sent}
 use Rattle.switch.specs.declared.answer.Outcome.{Outcome}
 use Rattle.switch.specs.declared.answer.Outcome.TheVariants.{Crossed, Answered, Dropped}
 use Rattle.routing.specs.declared.rule.Way.{Way}
-use Rattle.routing.specs.declared.rule.Way.TheVariants.{Stop, Goes, Comes}
+use Rattle.routing.specs.declared.rule.Way.TheVariants.{Goes, Comes}
 use Rattle.routing.specs.Call.{Asked}
 use Rattle.routing.specs.Refusal.{refusal_number, answers_reads}
 use Rattle.routing.specs.Rule.{bus_id, mapped_id, pass_way}
@@ -52,11 +52,11 @@ refused r p bus h =
 
 -- the answer of a way: refused; over, with "address − base + target" and "requester ID = 256 × bus(q) + 64 + i"; or back, with "requester
 -- ID from the entry, completer ID = 256 × bus(p)"
-abbrev pub way_answer : Way → ℕ → Header → List ℕ → Answer
-way_answer (Stop r) p h numbers = refused r p (bus_of numbers p) h
-way_answer (Goes t i) p h numbers =
+abbrev pub way_answer : Result Way Refusal → ℕ → Header → List ℕ → Answer
+way_answer (Err r) p h numbers = refused r p (bus_of numbers p) h
+way_answer (Ok (Goes t i)) p h numbers =
     crossed (sent_of (renamed (readdressed h t.address) (mapped_id (bus_of numbers t.destination) i)) t.destination)
-way_answer (Comes id i) p h numbers = crossed (sent_of (returned h id (bus_id (bus_of numbers (i / 4)))) (i / 4))
+way_answer (Ok (Comes id i)) p h numbers = crossed (sent_of (returned h id (bus_id (bus_of numbers (i / 4)))) (i / 4))
 
 -- the whole rule
 abbrev pub pass_rule : Asked → Answer

@@ -1,5 +1,5 @@
 // What passing changes: Out and the sender's log, as the outcome says.
-ghost use Rattle.std.specs.Prelude.{◌≡◌};
+ghost use Rattle.std.specs.Prelude.{◌≡◌, Some};
 ghost use Rattle.tlp.specs.Form.{rule_number};
 ghost use Rattle.routing.specs.Refusal.{refusal_number};
 ghost use Rattle.switch.specs.Answer.{on_paper};
@@ -11,45 +11,41 @@ use logs::Bit;
 use routing::refusal::Refusal;
 use tlp::form::Rule;
 
-// Whether a refusal is logged, and under which bit.
-#[derive(Clone, Copy)]
-pub enum Logged {
-    No,
-    Under(Bit),
-}
-
 // The bit of a rule of form that broke.
-fn rule_bit(rule: Rule) -> Logged
-    ensures { result ≡ log_bit (rule_number rule) }
+#[tactic(auto, unfolding(crate::specs::After::log_bit, ground::specs::Pick::pick))]
+fn rule_bit(rule: Rule) -> Bit
+    ensures { Some result ≡ log_bit (rule_number rule) }
 {
     match rule {
-        Rule::TooShort => Logged::Under(Bit::Malformed),
-        Rule::NotCarried => Logged::Under(Bit::Unsupported),
-        Rule::WrongLength => Logged::Under(Bit::Malformed),
-        Rule::Enables => Logged::Under(Bit::Malformed),
-        Rule::Contiguity => Logged::Under(Bit::Malformed),
-        Rule::PageCrossing => Logged::Under(Bit::Malformed),
-        Rule::ZeroHighWord => Logged::Under(Bit::Malformed),
+        Rule::TooShort => Bit::Malformed,
+        Rule::NotCarried => Bit::Unsupported,
+        Rule::WrongLength => Bit::Malformed,
+        Rule::Enables => Bit::Malformed,
+        Rule::Contiguity => Bit::Malformed,
+        Rule::PageCrossing => Bit::Malformed,
+        Rule::ZeroHighWord => Bit::Malformed,
     }
 }
 
-// The list's column "Log bit".
-pub fn log_bit(refusal: Refusal) -> Logged
+// The list's column "Log bit": none where a refusal is not logged.
+#[tactic(auto, unfolding(crate::specs::After::log_bit, ground::specs::Pick::pick))]
+pub fn log_bit(refusal: Refusal) -> Option<Bit>
     ensures { result ≡ log_bit (refusal_number refusal) }
 {
     match refusal {
-        Refusal::WrongCall => Logged::No,
-        Refusal::SenderInactive => Logged::No,
-        Refusal::Broken(rule) => rule_bit(rule),
-        Refusal::Poisoned => Logged::Under(Bit::Poisoned),
-        Refusal::NoWindow => Logged::Under(Bit::Unsupported),
-        Refusal::NoEntry => Logged::Under(Bit::Unsupported),
-        Refusal::DestinationInactive => Logged::Under(Bit::Unsupported),
-        Refusal::NotPassable => Logged::Under(Bit::UnexpectedCompletion),
+        Refusal::WrongCall => None,
+        Refusal::SenderInactive => None,
+        Refusal::Broken(rule) => Some(rule_bit(rule)),
+        Refusal::Poisoned => Some(Bit::Poisoned),
+        Refusal::NoWindow => Some(Bit::Unsupported),
+        Refusal::NoEntry => Some(Bit::Unsupported),
+        Refusal::DestinationInactive => Some(Bit::Unsupported),
+        Refusal::NotPassable => Some(Bit::UnexpectedCompletion),
     }
 }
 
 // Writes what came out of a packet with these data, if anything did.
+#[tactic(auto, using(wire::proofs::Laws::Write::over_none))]
 pub(crate) fn write_out(outcome: Outcome, body: &[u8], out: &mut [u8])
     ensures { out.new ≡ out_after (on_paper outcome) body.now out.old }
 {
@@ -67,12 +63,11 @@ pub(crate) fn write_out(outcome: Outcome, body: &[u8], out: &mut [u8])
 }
 
 // Logs an error in the row of `p`, if it is one that is logged.
-fn log(entry: Logged, p: u8, h: Header, logs: &mut [u32])
+fn log(entry: Option<Bit>, p: u8, h: Header, logs: &mut [u32])
     ensures { logs.new ≡ logged entry p h logs.old }
 {
-    match entry {
-        Logged::No => {}
-        Logged::Under(bit) => logs::record(p, bit, h, logs),
+    if let Some(bit) = entry {
+        logs::record(p, bit, h, logs);
     }
 }
 

@@ -1,2 +1,2 @@
--- The functions' proofs stand each in a folder of its function's name.
+-- Laws; the functions need no file of their own.
 pub mod Laws

@@ -1,5 +1,5 @@
 -- Reading a packet: the packet, or the first rule that it breaks, in the paper's order.
-use Rattle.std.specs.Prelude.{ℕ, ◌+◌, ◌*◌, ◌%◌, ◌^◌, List, Bool, not, ◌&&◌, ◌||◌, length, eqb, ltb}
+use Rattle.std.specs.Prelude.{ℕ, ◌+◌, ◌*◌, ◌%◌, ◌^◌, List, Bool, not, ◌&&◌, ◌||◌, length, eqb, ltb, Result, Ok, Err}
 use Rattle.ground.specs.Pick.{pick}
 use Rattle.header.specs.Kind.{is_completion, is_carried, has_four_words}
 use Rattle.header.specs.Words.{header_of}
@@ -8,7 +8,7 @@ use Rattle.header.specs.declared.words.Header.{Header}
 use Rattle.tlp.specs.declared.form.Rule.{Rule}
 use Rattle.tlp.specs.declared.form.Rule.TheVariants.{TooShort, NotCarried, WrongLength, Enables, Contiguity, PageCrossing, ZeroHighWord}
 use Rattle.tlp.specs.declared.form.Packet.{Packet}
-use Rattle.tlp.specs.declared.form.Packet.TheVariants.{Request, Completion, Broken}
+use Rattle.tlp.specs.declared.form.Packet.TheVariants.{Request, Completion}
 
 -- "fewer than 12 bytes"
 abbrev pub too_short : ℕ → Bool
@@ -58,25 +58,25 @@ abbrev pub zero_high_word : Header → Bool
 zero_high_word h = has_four_words (kind h) && eqb (high_word h) 0
 
 -- "Request form": the request, or the first rule broken
-unfoldable pub request_form : Header → Packet
+unfoldable pub request_form : Header → Result Packet Rule
 request_form h =
-    pick (enables_broken h) (Broken Enables)
-    (pick (contiguity_broken h) (Broken Contiguity)
-    (pick (crosses_page h) (Broken PageCrossing)
-    (pick (zero_high_word h) (Broken ZeroHighWord)
-    (Request h))))
+    pick (enables_broken h) (Err Enables)
+    (pick (contiguity_broken h) (Err Contiguity)
+    (pick (crosses_page h) (Err PageCrossing)
+    (pick (zero_high_word h) (Err ZeroHighWord)
+    (Ok (Request h)))))
 
 -- a packet of n bytes with these header words
-unfoldable pub form_of : ℕ → Header → Packet
+unfoldable pub form_of : ℕ → Header → Result Packet Rule
 form_of n h =
-    pick (too_short n) (Broken TooShort)
-    (pick (not_carried h) (Broken NotCarried)
-    (pick (wrong_length n h) (Broken WrongLength)
-    (pick (is_completion (kind h)) (Completion h)
+    pick (too_short n) (Err TooShort)
+    (pick (not_carried h) (Err NotCarried)
+    (pick (wrong_length n h) (Err WrongLength)
+    (pick (is_completion (kind h)) (Ok (Completion h))
     (request_form h))))
 
 -- reading a packet
-abbrev pub packet_of : List ℕ → Packet
+abbrev pub packet_of : List ℕ → Result Packet Rule
 packet_of s = form_of (length s) (header_of s)
 
 -- the list's refusal number of each rule: R-4, "31 to 36 replace 3 in that order", and 4 for "not carried"
@@ -90,7 +90,6 @@ rule_number PageCrossing = 35
 rule_number ZeroHighWord = 36
 
 -- the refusal number of what was read; 0, which is no refusal, of a packet that breaks no rule
-abbrev pub packet_number : Packet → ℕ
-packet_number (Request h) = 0
-packet_number (Completion h) = 0
-packet_number (Broken r) = rule_number r
+abbrev pub packet_number : Result Packet Rule → ℕ
+packet_number (Ok packet) = 0
+packet_number (Err r) = rule_number r

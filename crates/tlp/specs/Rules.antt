@@ -1,12 +1,11 @@
 -- R-4: "the packet layer shall name the first rule broken": what breaks each rule, and the order.
-use Rattle.std.specs.Prelude.{ℕ, ◌<◌, Bool, true, false, ◌&&◌, ◌≡◌, List, [], ◌∷◌}
+use Rattle.std.specs.Prelude.{ℕ, ◌<◌, Bool, true, false, ◌&&◌, ◌≡◌, List, [], ◌∷◌, Err}
 use Rattle.header.specs.Kind.{is_request}
 use Rattle.header.specs.Fields.{kind}
 use Rattle.header.specs.declared.words.Header.{Header}
 use Rattle.tlp.specs.Form.{too_short, not_carried, wrong_length, enables_broken, contiguity_broken, crosses_page, zero_high_word, form_of, packet_number}
 use Rattle.tlp.specs.declared.form.Rule.{Rule}
 use Rattle.tlp.specs.declared.form.Rule.TheVariants.{TooShort, NotCarried, WrongLength, Enables, Contiguity, PageCrossing, ZeroHighWord}
-use Rattle.tlp.specs.declared.form.Packet.TheVariants.{Broken}
 
 -- "Request form" is asked of requests alone
 abbrev pub of_requests : Header → Bool → Bool
@@ -44,7 +43,7 @@ pub record FirstBroken (n : ℕ) (h : Header) (r : Rule) : Type 0 where
 
 -- the packet layer names a rule exactly where it is the first broken
 abbrev pub LayerNamesFirst : Type 0
-LayerNamesFirst = (n : ℕ) (h : Header) (r : Rule) → (form_of n h ≡ Broken r → FirstBroken n h r) × (FirstBroken n h r → form_of n h ≡ Broken r)
+LayerNamesFirst = (n : ℕ) (h : Header) (r : Rule) → (form_of n h ≡ Err r → FirstBroken n h r) × (FirstBroken n h r → form_of n h ≡ Err r)
 
 -- "in demand 3's well-formed too": the number 0 is given exactly where no rule is broken
 abbrev pub WellFormedBreaksNone : Type 0

@@ -19,41 +19,32 @@ ghost use Rattle.tlp.specs.Form.{
 
 use header::words::Header;
 
-// The rules of form, in the order in which they are looked at.
-#[derive(Clone, Copy)]
+// The rules of form, in the order in which they are looked at, each under the paper's refusal number.
+#[derive(Clone, Copy, Debug, PartialEq, Eq)]
 pub enum Rule {
-    TooShort,
-    NotCarried,
-    WrongLength,
-    Enables,
-    Contiguity,
-    PageCrossing,
-    ZeroHighWord,
+    TooShort = 31,
+    NotCarried = 4,
+    WrongLength = 32,
+    Enables = 33,
+    Contiguity = 34,
+    PageCrossing = 35,
+    ZeroHighWord = 36,
 }
 
-// What reading finds: a request (a read or a write) or a completion, with its header words, or the first rule broken.
-#[derive(Clone, Copy)]
+// The paper's refusal number.
+impl From<Rule> for u32 {
+    ghost from_gives = { λ rule n. n ≡ rule_number rule };
+
+    fn from(rule: Rule) -> u32 {
+        rule as u32
+    }
+}
+
+// A packet that breaks no rule of form: a request (a read or a write) or a completion, with its header words.
+#[derive(Clone, Copy, Debug, PartialEq, Eq)]
 pub enum Packet {
     Request(Header),
     Completion(Header),
-    Broken(Rule),
-}
-
-impl Rule {
-    // The paper's refusal number.
-    pub fn number(self) -> u32
-        ensures { result ≡ rule_number self }
-    {
-        match self {
-            Rule::TooShort => 31,
-            Rule::NotCarried => 4,
-            Rule::WrongLength => 32,
-            Rule::Enables => 33,
-            Rule::Contiguity => 34,
-            Rule::PageCrossing => 35,
-            Rule::ZeroHighWord => 36,
-        }
-    }
 }
 
 // "another kind; TD set; AT not 0"
@@ -71,6 +62,7 @@ fn wrong_length(n: usize, h: Header) -> bool
 }
 
 // Enables: at Length 1 last 0, and first may be 0 as well: a flush. Above 1 neither 0.
+#[tactic(auto, using(ground::proofs::Laws::Pick::decide))]
 fn enables_broken(h: Header) -> bool
     ensures { result ≡ enables_broken h }
 {
@@ -87,14 +79,14 @@ fn enables_broken(h: Header) -> bool
 fn reaches_up(e: u8) -> bool
     ensures { result ≡ reaches_up e }
 {
-    (e == 0b1111) | (e == 0b1110) | (e == 0b1100) | (e == 0b1000)
+    matches!(e, 0b1111 | 0b1110 | 0b1100 | 0b1000)
 }
 
 // The last dword has no gap from the one before.
 fn reaches_down(e: u8) -> bool
     ensures { result ≡ reaches_down e }
 {
-    (e == 0b0001) | (e == 0b0011) | (e == 0b0111) | (e == 0b1111)
+    matches!(e, 0b0001 | 0b0011 | 0b0111 | 0b1111)
 }
 
 // "except at Length 2 with address a multiple of 8"
@@ -116,7 +108,7 @@ fn contiguity_broken(h: Header) -> bool
 fn crosses_page(h: Header) -> bool
     ensures { result ≡ crosses_page h }
 {
-    4096 < h.address() % 4096 + 4 * (h.dwords() as u64)
+    4096 < h.address() % 4096 + 4 * u64::from(h.dwords())
 }
 
 // A 64-bit header with a high word of 0.
@@ -127,60 +119,60 @@ fn zero_high_word(h: Header) -> bool
 }
 
 // "Request form".
-fn request_form(h: Header) -> Packet
+#[tactic(auto, using(ground::proofs::Laws::Pick::decide), unfolding(crate::specs::Form::request_form))]
+fn request_form(h: Header) -> Result<Packet, Rule>
     ensures { result ≡ request_form h }
 {
     if enables_broken(h) {
-        return Packet::Broken(Rule::Enables);
+        return Err(Rule::Enables);
     }
     if contiguity_broken(h) {
-        return Packet::Broken(Rule::Contiguity);
+        return Err(Rule::Contiguity);
     }
     if crosses_page(h) {
-        return Packet::Broken(Rule::PageCrossing);
+        return Err(Rule::PageCrossing);
     }
     if zero_high_word(h) {
-        return Packet::Broken(Rule::ZeroHighWord);
+        return Err(Rule::ZeroHighWord);
     }
-    Packet::Request(h)
+    Ok(Packet::Request(h))
 }
 
-// A packet of `n` bytes with these header words.
-pub fn form(n: usize, h: Header) -> Packet
+// A packet of `n` bytes with these header words, or the first rule that it breaks.
+#[tactic(auto, using(ground::proofs::Laws::Pick::decide), unfolding(crate::specs::Form::form_of))]
+pub fn form(n: usize, h: Header) -> Result<Packet, Rule>
     ensures { result ≡ form_of n h }
 {
     if n < 12 {
-        return Packet::Broken(Rule::TooShort);
+        return Err(Rule::TooShort);
     }
     if not_carried(h) {
-        return Packet::Broken(Rule::NotCarried);
+        return Err(Rule::NotCarried);
     }
     if wrong_length(n, h) {
-        return Packet::Broken(Rule::WrongLength);
+        return Err(Rule::WrongLength);
     }
     if h.is_completion() {
-        Packet::Completion(h)
-    } else {
-        request_form(h)
+        return Ok(Packet::Completion(h));
     }
+    request_form(h)
 }
 
 impl Packet {
-    // The paper's refusal number; 0, which is none, of a packet that breaks no rule.
-    pub fn refusal(self) -> u32
-        ensures { result ≡ packet_number self }
-    {
-        match self {
-            Packet::Request(_) => 0,
-            Packet::Completion(_) => 0,
-            Packet::Broken(rule) => rule.number(),
-        }
-    }
-
-    // Reading a packet.
-    pub fn read(packet: &[u8]) -> Packet
+    // Reading a packet, or the first rule that it breaks.
+    pub fn read(packet: &[u8]) -> Result<Packet, Rule>
         ensures { result ≡ packet_of packet.now }
     {
         form(packet.len(), Header::read(packet))
+    }
+}
+
+// The paper's refusal number; 0, which is none, of a packet that breaks no rule.
+pub fn refusal(packet: Result<Packet, Rule>) -> u32
+    ensures { result ≡ packet_number packet }
+{
+    match packet {
+        Ok(_) => 0,
+        Err(rule) => u32::from(rule),
     }
 }

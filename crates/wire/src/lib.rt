@@ -1,12 +1,11 @@
 // Writing header and data over the start of a buffer.
-#![tactic(auto)]
+#![tactic(auto, using(crate::proofs::Laws::Write::writing))]
 
-ghost use Rattle.std.specs.Prelude.{◌≡◌, ◌+◌, ◌≤◌, length, []};
-ghost use Rattle.ground.specs.Pick.{pick};
-ghost use Rattle.header.specs.Kind.{has_four_words, header_bytes};
+ghost use Rattle.std.specs.Prelude.{◌≡◌, ◌+◌, ◌≤◌, length};
+ghost use Rattle.header.specs.Kind.{header_bytes};
 ghost use Rattle.header.specs.Fields.{kind};
 ghost use Rattle.header.specs.Words.{word_bytes};
-ghost use Rattle.wire.specs.Write.{packet_list, over, written_bytes};
+ghost use Rattle.wire.specs.Write.{header_list, packet_list, over, written_bytes};
 
 use header::words::Header;
 
@@ -15,10 +14,7 @@ fn put_word(out: &mut [u8], at: usize, w: u32)
     requires { at + 4 ≤ length out.old }
     ensures { out.new ≡ over out.old at (word_bytes w) }
 {
-    out[at] = (w / 0x0100_0000 % 256) as u8;
-    out[at + 1] = (w / 0x0001_0000 % 256) as u8;
-    out[at + 2] = (w / 0x0100 % 256) as u8;
-    out[at + 3] = (w % 256) as u8;
+    out[at..at + 4].copy_from_slice(&w.to_be_bytes());
 }
 
 // The bytes of `payload` at `at`.
@@ -26,17 +22,19 @@ fn put_bytes(out: &mut [u8], at: usize, payload: &[u8])
     requires { at + length payload.now ≤ length out.old }
     ensures { out.new ≡ over out.old at payload.now }
 {
-    for i in 0..payload.len() {
-        out[at + i] = payload[i];
+    for (i, byte) in payload.iter().enumerate() {
+        out[at + i] = *byte;
     }
 }
 
-// The first word, and the fourth where the header has one.
-fn put_outer(h: Header, out: &mut [u8])
+// A header's words over the start, the fourth where it has one.
+fn put_header(h: Header, out: &mut [u8])
     requires { header_bytes (kind h) ≤ length out.old }
-    ensures { out.new ≡ over (over out.old 0 (word_bytes h.w0)) 12 (pick (has_four_words (kind h)) (word_bytes h.w3) []) }
+    ensures { out.new ≡ over out.old 0 (header_list h) }
 {
     put_word(out, 0, h.w0);
+    put_word(out, 4, h.w1);
+    put_word(out, 8, h.w2);
     if h.has_four_words() {
         put_word(out, 12, h.w3);
     }
@@ -48,14 +46,11 @@ pub fn write(h: Header, payload: &[u8], out: &mut [u8]) -> usize
     ensures out_after { out.new ≡ over out.old 0 (packet_list h payload.now) }
 {
     let n = h.header_bytes();
-    if n + payload.len() <= out.len() {
-        // Not in a row: the stores of one word become one store only where those of no other stand beside them. The fourth
-        // word's test and the data's loop keep the first three apart.
-        put_outer(h, out);
-        put_word(out, 4, h.w1);
-        put_bytes(out, n, payload);
-        put_word(out, 8, h.w2);
-        return n + payload.len();
+    let total = n + payload.len();
+    if out.len() < total {
+        return 0;
     }
-    0
+    put_header(h, out);
+    put_bytes(out, n, payload);
+    total
 }

@@ -1,5 +1,6 @@
 -- The answer to a refused read, read back: each field is the one that was put there, and it is a well-formed completion.
 -- Its words are sums of fields at their places, each below its bound. Assumes nothing.
+use Rattle.std.specs.Prelude.{Ok}
 use Prim.Native.Nat.{ℕ, ◌+◌, ◌*◌, ◌%◌, ◌<◌, ◌^◌}
 use mathlib.Core.Path.{◌≡◌, refl, ap, ◌∙◌}
 use mathlib.Core.List.{[]}
@@ -39,15 +40,7 @@ record Word0 (w t a : ℕ) : Type 0 where
   translated : field 10 2 w ≡ 0
 
 word_0 : (t a : ℕ) → t < 2 ^ 3 → a < 2 ^ 2 → Word0 (place 24 completion + place 20 t + place 12 a) t a
-word_0 t a p q =
-    record {
-      fits = omega arith;
-      kind = omega arith;
-      class = omega arith;
-      digest = omega arith;
-      attributes = omega arith;
-      translated = omega arith;
-    }
+word_0 t a p q = grind arith
 
 -- word 1, of a completer ID and a byte count's field
 record Word1 (w c n : ℕ) : Type 0 where
@@ -58,7 +51,7 @@ record Word1 (w c n : ℕ) : Type 0 where
   count : field 0 12 w ≡ n
 
 word_1 : (c n : ℕ) → c < 2 ^ 16 → n < 2 ^ 12 → Word1 (place 16 c + place 13 unsupported_request + n) c n
-word_1 c n p q = record { fits = omega arith; completer = omega arith; status = omega arith; modified = omega arith; count = omega arith }
+word_1 c n p q = grind arith
 
 -- word 2, of a requester ID, a tag and a lower address
 record Word2 (w r t l : ℕ) : Type 0 where
@@ -68,7 +61,7 @@ record Word2 (w r t l : ℕ) : Type 0 where
   lower : field 0 7 w ≡ l
 
 word_2 : (r t l : ℕ) → r < 2 ^ 16 → t < 2 ^ 8 → l < 2 ^ 7 → Word2 (place 16 r + place 8 t + l) r t l
-word_2 r t l p q s = record { fits = omega arith; requester = omega arith; tag = omega arith; lower = omega arith }
+word_2 r t l p q s = grind arith
 
 module _ (h : Header) (c : ℕ) (b : c < 2 ^ 16) where
   zeroth : Word0 (answer_word_0 h) (traffic_class h) (attributes h)
@@ -112,7 +105,7 @@ module _ (h : Header) (c : ℕ) (b : c < 2 ^ 16) where
   answer_proper = record { fits_0 = zeroth.fits; fits_1 = first.fits; fits_2 = second.fits; fits_3 = omega arith; lacks = λ _. refl }
 
   -- it is a well-formed completion of 12 bytes
-  pub answer_form : form_of 12 (answer_to h c) ≡ Completion (answer_to h c)
+  pub answer_form : form_of 12 (answer_to h c) ≡ Ok (Completion (answer_to h c))
   unfolding pick
   answer_form =
       let k : kind (answer_to h c) ≡ completion = zeroth.kind in
@@ -128,7 +121,7 @@ module _ (h : Header) (c : ℕ) (b : c < 2 ^ 16) where
       })
 
   -- so are its bytes
-  pub answer_bytes : packet_of (packet_list (answer_to h c) []) ≡ Completion (answer_to h c)
+  pub answer_bytes : packet_of (packet_list (answer_to h c) []) ≡ Ok (Completion (answer_to h c))
   unfolding pick
   answer_bytes =
       ap (λ (m : ℕ). form_of m (header_of (packet_list (answer_to h c) []))) (length_packet (answer_to h c) [] ∙ ap (λ (m : ℕ). header_bytes m + 0) zeroth.kind)

@@ -1,6 +1,7 @@
 -- What crosses comes out whole: from the start of Out stand as many bytes as the record says, they read back as the record's header words,
 -- they break no rule of form, and beyond them Out is as it was. What is written is read as the packet that the record says, which tells its
 -- words and its length; that is at most 4,112 bytes, and Out has as many. Assumes nothing.
+use Rattle.std.specs.Prelude.{Ok}
 use Prim.Native.Nat.{ℕ, ◌≤◌, ◌<◌, ◌^◌, ◌/◌}
 use mathlib.Core.Path.{◌≡◌, refl, sym, ap, ◌∙◌, subst}
 use mathlib.Core.Bool.{false}
@@ -24,8 +25,6 @@ use Rattle.tlp.proofs.Laws.Form.{inverted, inverted_completion, crosses_well_for
 use Rattle.wire.proofs.Laws.Write.{take_over, drop_over}
 use Rattle.numbers.specs.Entries.{look_at}
 use Rattle.numbers.specs.Buses.{bus_of}
-use Rattle.numbers.specs.declared.entries.Entry.{Entry}
-use Rattle.numbers.specs.declared.entries.Entry.TheVariants.{Held}
 use Rattle.switch.specs.declared.answer.Sent.{Sent}
 use Rattle.routing.specs.Call.{Call, body_of}
 use Rattle.routing.specs.Rule.{bus_id}
@@ -36,6 +35,8 @@ use Rattle.demands.specs.Call.{came_out, Lent}
 use Rattle.demands.specs.Demand3.{CameOutWhole, AllCameOutWhole}
 use Rattle.demands.proofs.Laws.Crossing.{Went, Came, crossed_way, crossed_entered, right}
 use Rattle.demands.proofs.Laws.Outgoing.{translation_lt, translation_pages, number_over, number_lt}
+use Rattle.numbers.specs.declared.entries.Entry.{Entry}
+use Rattle.numbers.specs.declared.entries.Entry.TheVariants.{Held}
 
 -- a length that is not wrong is the header's and the data's
 pub whole_length : (n : ℕ) (h : Header) → wrong_length n h ≡ false → n ≡ total_bytes h
@@ -48,7 +49,7 @@ record Reads (s : List ℕ) (h : Header) : Type 0 where
   formed : packet_number (packet_of s) ≡ 0
 
 -- so is what is read as a request
-reads_request : (s : List ℕ) (h : Header) → packet_of s ≡ Request h → Reads s h
+reads_request : (s : List ℕ) (h : Header) → packet_of s ≡ Ok (Request h) → Reads s h
 reads_request s h e =
     let f = inverted (length s) (header_of s) h e in
     record {
@@ -58,7 +59,7 @@ reads_request s h e =
     }
 
 -- and what is read as a completion
-reads_completion : (s : List ℕ) (h : Header) → packet_of s ≡ Completion h → Reads s h
+reads_completion : (s : List ℕ) (h : Header) → packet_of s ≡ Ok (Completion h) → Reads s h
 reads_completion s h e =
     let f = inverted_completion (length s) (header_of s) h e in
     record {

@@ -1,5 +1,6 @@
 -- What a packet that crosses was: a request that went over by a window and an entry, or a completion that came back to the owner of one;
 -- with what holds at its way. A refusal is no crossing, and the rest is the rule's one walk. Assumes nothing.
+use Rattle.std.specs.Prelude.{Result, Ok, Err}
 use Prim.Native.Nat.{ℕ, ◌*◌, ◌+◌, ◌/◌, ◌<◌}
 use mathlib.Core.Path.{◌≡◌, refl}
 use mathlib.Core.Bool.{true, ◌&&◌}
@@ -13,12 +14,11 @@ use Rattle.header.specs.Rewrite.{readdressed, renamed, returned}
 use Rattle.look.specs.declared.Translation.{Translation}
 use Rattle.numbers.specs.Entries.{entry_at}
 use Rattle.numbers.specs.Buses.{bus_of, is_active}
-use Rattle.numbers.specs.declared.entries.Entry.TheVariants.{Held}
 use Rattle.numbers.proofs.Laws.Entries.{found_holds}
 use Rattle.routing.specs.declared.refusal.Refusal.{Refusal}
 use Rattle.switch.specs.declared.answer.Sent.{Sent}
 use Rattle.routing.specs.declared.rule.Way.{Way}
-use Rattle.routing.specs.declared.rule.Way.TheVariants.{Stop, Goes, Comes}
+use Rattle.routing.specs.declared.rule.Way.TheVariants.{Goes, Comes}
 use Rattle.routing.specs.Call.{Call, head_of, asked}
 use Rattle.routing.specs.Rule.{bus_id, mapped_id, pass_way}
 use Rattle.routing.specs.Why.{Entered, Named, Holds}
@@ -27,6 +27,7 @@ use Rattle.routing.specs.Refusal.{answers_reads}
 use Rattle.switch.specs.After.{answer_of}
 use Rattle.routing.proofs.Laws.Call.{Right, right_call}
 use Rattle.routing.proofs.Laws.Exactly.{exactly}
+use Rattle.numbers.specs.declared.entries.Entry.TheVariants.{Held}
 
 -- the request that a way takes over, and the record that it comes out with
 abbrev pub gone_over : Call → Translation → ℕ → Sent
@@ -49,7 +50,7 @@ pub record Went (c : Call) (x : Sent) : Type 0 where
 pub record Came (c : Call) (x : Sent) : Type 0 where
   pub id : ℕ
   pub index : ℕ
-  pub holds : Holds (asked c) (Comes id index)
+  pub holds : Holds (asked c) (Ok (Comes id index))
   pub sent : x ≡ come_back c id index
 
 -- a refusal is no crossing
@@ -68,12 +69,12 @@ one_record x y e = cc
 pub crossed_way : (c : Call) (x : Sent) → answer_of c ≡ crossed x → Went c x ⊎ Came c x
 crossed_way c x e = by_way (pass_way (asked c)) refl e
   where
-    by_way : (y : Way) → pass_way (asked c) ≡ y → way_answer y c.sender (head_of c) c.tables.numbers ≡ crossed x → Went c x ⊎ Came c x
-    by_way (Stop r) w a = absurd (refused_not r c.sender (bus_of c.tables.numbers c.sender) c x a)
-    by_way (Goes t i) w a =
-        let h = (exactly (asked c) (Goes t i)).0 w in
+    by_way : (y : Result Way Refusal) → pass_way (asked c) ≡ y → way_answer y c.sender (head_of c) c.tables.numbers ≡ crossed x → Went c x ⊎ Came c x
+    by_way (Err r) w a = absurd (refused_not r c.sender (bus_of c.tables.numbers c.sender) c x a)
+    by_way (Ok (Goes t i)) w a =
+        let h = (exactly (asked c) (Ok (Goes t i))).0 w in
         inl (record { way = t; index = i; named = h.0; reached = h.1; sent = one_record (gone_over c t i) x a })
-    by_way (Comes id i) w a = inr (record { id = id; index = i; holds = (exactly (asked c) (Comes id i)).0 w; sent = one_record (come_back c id i) x a })
+    by_way (Ok (Comes id i)) w a = inr (record { id = id; index = i; holds = (exactly (asked c) (Ok (Comes id i))).0 w; sent = one_record (come_back c id i) x a })
 
 -- what an entered call was given
 pub right : (c : Call) → Entered (asked c) → Right c.sender c.tables (length c.logs) (length c.out)

@@ -1,6 +1,7 @@
 -- A refusal is one of the list's: a read alone is answered, by 5 to 8 and with the answer to it; what is dropped is dropped by 1, 2, 4 to 9
 -- or 31 to 36, and a read by none of 5 to 9; and but for 1 and 2 the call had entered. By clauses on the refusal, with what holds where the
 -- rule's one walk ends at it. Assumes nothing.
+use Rattle.std.specs.Prelude.{Result, Ok, Err}
 use Prim.Native.Nat.{ℕ, ◌≤◌}
 use mathlib.Core.Path.{◌≡◌, refl, sym, ap, ◌∙◌}
 use mathlib.Core.Bool.{Bool, true, ◌&&◌, ◌||◌, true≢false}
@@ -19,7 +20,7 @@ use Rattle.routing.specs.declared.refusal.Refusal.TheVariants.{WrongCall, Sender
 use Rattle.routing.specs.declared.refusal.Refusal.TheVariants.{NoWindow, NoEntry, DestinationInactive, NotPassable}
 use Rattle.switch.specs.declared.answer.Sent.{Sent}
 use Rattle.routing.specs.declared.rule.Way.{Way}
-use Rattle.routing.specs.declared.rule.Way.TheVariants.{Stop, Goes, Comes}
+use Rattle.routing.specs.declared.rule.Way.TheVariants.{Goes, Comes}
 use Rattle.routing.specs.Call.{Asked, Call, head_of, asked}
 use Rattle.routing.specs.Rule.{bus_id, pass_way}
 use Rattle.routing.specs.Why.{Entered, going, coming, Why, Holds}
@@ -128,7 +129,7 @@ refused_listed c r w =
 pub listed : (c : Call) → Listed c (answer_of c)
 listed c = by_way (pass_way (asked c)) (holds (asked c))
   where
-    by_way : (y : Way) → Holds (asked c) y → Listed c (way_answer y c.sender (head_of c) c.tables.numbers)
-    by_way (Stop r) w = refused_listed c r w
-    by_way (Goes t i) w = tt
-    by_way (Comes id i) w = tt
+    by_way : (y : Result Way Refusal) → Holds (asked c) y → Listed c (way_answer y c.sender (head_of c) c.tables.numbers)
+    by_way (Err r) w = refused_listed c r w
+    by_way (Ok (Goes t i)) w = tt
+    by_way (Ok (Comes id i)) w = tt

@@ -8,13 +8,13 @@ use native.Mathlib.Omega.{arith}
 use lib.ListN.{get_or}
 use Rattle.header.specs.Fields.{requester_id}
 use Rattle.numbers.specs.Entries.{look_at, entry_at}
-use Rattle.numbers.specs.declared.entries.Entry.TheVariants.{Held}
 use Rattle.switch.specs.declared.answer.Sent.{Sent}
 use Rattle.routing.specs.Call.{Call, head_of}
 use Rattle.demands.specs.Call.{Passed}
 use Rattle.demands.specs.Demand3.{number_out, tag_out, OneSender, NoConfusion}
 use Rattle.demands.proofs.Laws.Crossing.{went_filled}
 use Rattle.demands.proofs.Laws.Number.{passed_went, index_out, tag_out_lem}
+use Rattle.numbers.specs.declared.entries.Entry.TheVariants.{Held}
 
 -- one held entry, one ID
 one_id : (a b : ℕ) → Held a ≡ Held b → a ≡ b

@@ -3,6 +3,7 @@
 -- entry and both buses are as they were, and the sender has some row in force to there, with the bit if the completion is marked. The number
 -- names bus and index, the index the entry and its owner, and so the completion's way is found; it comes out whole, and its bytes are those of
 -- a returned completion. Assumes nothing.
+use Rattle.std.specs.Prelude.{Result, Ok}
 use Prim.Native.Nat.{ℕ, ◌+◌, ◌*◌, ◌/◌, ◌%◌, ◌^◌, ◌<◌}
 use mathlib.Core.Path.{◌≡◌, refl, sym, ap, ◌∙◌, subst}
 use mathlib.Core.Bool.{Bool, true, false, not, ◌&&◌}
@@ -23,7 +24,6 @@ use Rattle.tlp.proofs.Laws.Rules.{no_rule, two_kinds, each_form}
 use Rattle.look.proofs.Laws.Look.{reaches_by, way_unmarked, covered_away}
 use Rattle.numbers.specs.Entries.{look_at, entry_at}
 use Rattle.numbers.specs.Buses.{bus_of, is_active}
-use Rattle.numbers.specs.declared.entries.Entry.TheVariants.{Held}
 use Rattle.switch.specs.declared.answer.Sent.{Sent}
 use Rattle.routing.specs.declared.rule.Way.{Way}
 use Rattle.routing.specs.declared.rule.Way.TheVariants.{Comes}
@@ -41,11 +41,14 @@ use Rattle.demands.proofs.Laws.Outgoing.{went_covered}
 use Rattle.demands.proofs.Laws.CameOut.{whole_length, came_out_lem, came_out_whole}
 use Rattle.demands.proofs.Laws.Number.{passed_went, number_out_lem, index_out, tag_out_lem}
 use Rattle.demands.proofs.Laws.Bytes.{returned_bytes_lem}
+use Rattle.routing.specs.declared.refusal.Refusal.{Refusal}
+use Rattle.tlp.specs.declared.form.Rule.{Rule}
+use Rattle.numbers.specs.declared.entries.Entry.TheVariants.{Held}
 
 -- what breaks no rule and is of a completion's kind is read as a completion
-whole_completion : (n : ℕ) (h : Header) → is_completion (kind h) ≡ true → packet_number (form_of n h) ≡ 0 → form_of n h ≡ Completion h
+whole_completion : (n : ℕ) (h : Header) → is_completion (kind h) ≡ true → packet_number (form_of n h) ≡ 0 → form_of n h ≡ Ok (Completion h)
 whole_completion n h k =
-    each_form n h (λ (m : Packet). packet_number m ≡ 0 → m ≡ Completion h)
+    each_form n h (λ (m : Result Packet Rule). packet_number m ≡ 0 → m ≡ Ok (Completion h))
     (λ r _ e. absurd (no_rule r 0 (omega arith) (λ z. omega (arith, z)) e))
     (λ _ r _. absurd (two_kinds (kind h) r k))
     (λ _ _ _. refl)
@@ -117,7 +120,7 @@ module _ (a c : Call) (x : Sent) (p : Passed a x) (k : Completes a x c) (v : Pro
       (subst (λ (q : ℕ). HasWay c.tables a.sender q marked) (sym k.from_there) v.window)
 
   -- the completion is one
-  form : form_of (size_of c) h ≡ Completion h
+  form : form_of (size_of c) h ≡ Ok (Completion h)
   form = whole_completion (size_of c) h k.completion k.well_formed
 
   -- it bears the entry's number
@@ -152,10 +155,10 @@ module _ (a c : Call) (x : Sent) (p : Passed a x) (k : Completes a x c) (v : Pro
       record { owned = owned; row = reaches_by windows (i / 4) c.sender false (way_unmarked windows (i / 4) c.sender marked way_there) }
 
   -- its way
-  way_back_lem : pass_way (asked c) ≡ Comes id i
+  way_back_lem : pass_way (asked c) ≡ Ok (Comes id i)
   way_back_lem =
       let reached = reaches_by c.tables.windows (i / 4) c.sender marked way_there in
-      (exactly (asked c) (Comes id i)).1 (passable, not_stopped marked _ reached)
+      (exactly (asked c) (Ok (Comes id i))).1 (passable, not_stopped marked _ reached)
 
   -- the number of the sender's bus
   abbrev completer : ℕ
@@ -168,7 +171,7 @@ module _ (a c : Call) (x : Sent) (p : Passed a x) (k : Completes a x c) (v : Pro
   -- it crosses
   crosses : answer_of c ≡ crossed back
   crosses =
-      ap (λ (y : Way). way_answer y c.sender h c.tables.numbers) way_back_lem
+      ap (λ (y : Result Way Refusal). way_answer y c.sender h c.tables.numbers) way_back_lem
       ∙ ap (λ (o : ℕ). crossed (sent_of (returned h id (bus_id (bus_of c.tables.numbers o))) o)) owner
 
   -- and comes back

@@ -1,6 +1,7 @@
 -- The rule that settles it, for every call: what crossed passed by an open window and a filled entry, and no log changed; what was
 -- refused stayed at home, and but for 1 and 2 it is logged there and nowhere else.
 -- What holds at a way names the window and the entry; the log's laws say what a refusal leaves. Assumes nothing.
+use Rattle.std.specs.Prelude.{Option}
 use Prim.Native.Nat.{ℕ, ◌/◌, ◌%◌, ◌≤◌}
 use mathlib.Core.Path.{◌≡◌, refl, sym, ap, ◌∙◌}
 use mathlib.Core.Bool.{Bool, true, false, not, ◌&&◌}
@@ -17,7 +18,6 @@ use Rattle.numbers.specs.Buses.{bus_of}
 use Rattle.logs.specs.Logs.{status_of, bit_number, bit_mask}
 use Rattle.logs.proofs.Laws.Status.{set_bit, status_recorded}
 use Rattle.switch.specs.declared.answer.Sent.{Sent}
-use Rattle.switch.specs.declared.after.Logged.{Logged}
 use Rattle.routing.specs.Call.{Tables, Call, reached, head_of, asked}
 use Rattle.routing.specs.Rule.{mapped_id}
 use Rattle.routing.specs.Why.{Entered}
@@ -28,6 +28,7 @@ use Rattle.switch.proofs.Laws.Frame.{logs_elsewhere}
 use Rattle.demands.specs.Settled.{RequestPassed, CompletionPassed, AtHome, Fate, Settles}
 use Rattle.demands.proofs.Laws.Crossing.{gone_over, Went, Came, crossed_way, right, went_filled, came_index_lt}
 use Rattle.demands.proofs.Laws.Listed.{Listed, listed}
+use Rattle.logs.specs.declared.Bit.{Bit}
 
 -- who reaches a partition and is not stopped on the way reaches it so marked as it is
 reached_so : (tables : Tables) (p q : ℕ) (marked : Bool) → reached tables p q false ≡ true → (marked && not (reached tables p q marked)) ≡ false
@@ -79,7 +80,7 @@ passed_by c x e = ⊎_elim (λ w. inl (went_passed c x w)) (λ w. inr (came_pass
 -- what was refused by n, in the logs that n leaves
 at_home : (c : Call) (n : ℕ) → logs_of c ≡ logged (log_bit n) c.sender (head_of c) c.logs → (3 ≤ n → Entered (asked c)) → AtHome c n
 at_home c n e entered =
-    let after : Logged → List ℕ = λ k. logged k c.sender (head_of c) c.logs in
+    let after : Option Bit → List ℕ = λ k. logged k c.sender (head_of c) c.logs in
     record {
       logged = λ h.
           let b = has_bit n h in

@@ -1,7 +1,6 @@
 -- What a join of two tests tells of each, and how one is made up of them. By the first test. Assumes nothing.
 use mathlib.Core.Path.{◌≡◌, refl, sym}
 use mathlib.Core.Bool.{Bool, true, false, ◌&&◌, ◌||◌, true≢false}
-use mathlib.Core.Logic.{◌⊎◌, inl, inr}
 
 -- both hold
 pub both : (a b : Bool) → (a && b) ≡ true → (a ≡ true) × (b ≡ true)
@@ -12,15 +11,6 @@ both false b e = absurd (true≢false (sym e))
 pub neither : (a b : Bool) → (a || b) ≡ false → (a ≡ false) × (b ≡ false)
 neither true b e = absurd (true≢false e)
 neither false b e = (refl, e)
-
--- one of them holds
-pub one_of : (a b : Bool) → (a || b) ≡ true → (a ≡ true) ⊎ (b ≡ true)
-one_of true b e = inl refl
-one_of false b e = inr e
-
--- where the first fails, both do not hold
-pub and_no : (a b : Bool) → a ≡ false → false ≡ (a && b)
-and_no a b e = rw e
 
 -- where the first holds, the second says
 pub and_yes : (a b r : Bool) → a ≡ true → r ≡ b → r ≡ (a && b)

@@ -1,19 +1,20 @@
 -- What each rewriting makes of a header: the field is the new value, every other field is as it was, and the words stay
 -- header words. All of it is the law of a replaced field, at the field's place. Assumes nothing.
-use Prim.Native.Nat.{ℕ, ◌+◌, ◌*◌, ◌/◌, ◌%◌, ◌^◌, ◌≤◌, ◌<◌}
+use Prim.Native.Nat.{ℕ, ◌+◌, ◌*◌, ◌/◌, ◌^◌, ◌≤◌, ◌<◌}
 use mathlib.Core.Path.{◌≡◌, refl, sym, ap, ◌∙◌}
 use mathlib.Core.Bool.{true, false, true≢false}
 use native.Mathlib.Omega.{arith}
 use borrow.Author.Tests.{leb-true, leb-false, le-leb, lt-leb}
 use lib.Dec.{eqb, leb}
 use lib.Pow.{shr_mod, shr-shr, split}
+use Rattle.ground.specs.Pick.{pick}
 use Rattle.ground.specs.Field.{field, place, with_field}
 use Rattle.header.specs.Kind.{has_four_words}
 use Rattle.header.specs.Fields.{kind, requester_id, tag, high_word, low_word, address, below_address, completer_id, completion_requester_id, completion_tag}
 use Rattle.header.specs.Rewrite.{low_word_for, in64, in32, readdressed, renamed, returned}
 use Rattle.header.specs.declared.words.Header.{Header}
 use Rattle.ground.proofs.Laws.Pick.{hit, pass, either}
-use Rattle.ground.proofs.Laws.Field.{parts, field_same, field_below, field_above, field_of_field, field_lt, stays_lt}
+use Rattle.ground.proofs.Laws.Field.{field_same, field_below, field_above, field_of_field, field_lt, stays_lt}
 use Rattle.header.proofs.Laws.Words.{Proper}
 
 -- a request with another requester ID
@@ -68,13 +69,7 @@ module _ (h : Header) (id completer : ℕ) (b : id < 2 ^ 16) (d : completer < 2 
 
 -- eight bits by their fields
 by_digits : (k m b : ℕ) → m < 2 ^ 8 → k < 2 ^ 8 → field 5 1 m ≡ b → field 6 2 m ≡ field 6 2 k → field 0 5 m ≡ field 0 5 k → m ≡ with_field 5 1 k b
-by_digits k m b p q r s t =
-    let up : m / 2 ^ 6 ≡ k / 2 ^ 6 = sym (shr_mod 2 6 p) ∙ s ∙ shr_mod 2 6 q in
-    let low : m % 2 ^ 5 ≡ k % 2 ^ 5 = omega (arith, t) in
-    parts 5 1 m
-    ∙ ap (λ (x : ℕ). x * 2 ^ 6 + place 5 (field 5 1 m) + m % 2 ^ 5) up
-    ∙ ap (λ (x : ℕ). k / 2 ^ 6 * 2 ^ 6 + place 5 x + m % 2 ^ 5) r
-    ∙ ap (λ (x : ℕ). k / 2 ^ 6 * 2 ^ 6 + place 5 b + x) low
+by_digits k m b p q r s t = omega arith
 
 module _ (w b : ℕ) (h : b < 2) where
   -- bit 29 of word 0 is bit 5 of the kind
@@ -94,7 +89,8 @@ module _ (w b : ℕ) (h : b < 2) where
 
 -- a low address word is of 32 bits
 low_word_lt : (h : Header) → Proper h → low_word h < 2 ^ 32
-low_word_lt h p = either (λ (w : ℕ). w < 2 ^ 32) (has_four_words (kind h)) (λ _. p.fits_3) (λ _. p.fits_2)
+unfolding pick
+low_word_lt h p = grind arith
 
 -- a request with another address
 module _ (h : Header) (a : ℕ) (b : a < 2 ^ 64) where

@@ -1,13 +1,13 @@
 -- Header words and the bytes that they are read from. A word is its four bytes, as digits of 256. Assumes nothing.
-use Prim.Native.Nat.{ℕ, ◌+◌, ◌*◌, ◌%◌, ◌<◌, ◌^◌}
+use Prim.Native.Nat.{ℕ, ◌+◌, ◌%◌, ◌<◌, ◌^◌}
 use mathlib.Core.Path.{◌≡◌, refl, sym, ap, ◌∙◌}
 use mathlib.Core.Bool.{false}
-use mathlib.Core.List.{List}
+use mathlib.Core.List.{List, [], ◌∷◌}
 use native.Mathlib.Omega.{arith}
-use lib.Pow.{mod-pow-add, recompose}
+use Rattle.std.specs.Int.{w32, to_be_bytes}
 use Rattle.ground.specs.Field.{field}
 use Rattle.header.specs.Kind.{has_four_words}
-use Rattle.header.specs.Words.{byte_at, joined, word_at, header_of}
+use Rattle.header.specs.Words.{byte_at, joined, word_at, header_of, word_bytes}
 use Rattle.header.specs.Fields.{kind}
 use Rattle.header.specs.declared.words.Header.{Header}
 use Rattle.ground.proofs.Laws.Pick.{pass, either}
@@ -50,12 +50,12 @@ module _ (s : List ℕ) (b : Bytes s) where
         lacks = λ e. sym (pass (has_four_words (byte_at s 0)) (word_at s 12) 0 (ap has_four_words (sym kind_is_byte_0) ∙ e) refl);
       }
 
--- a word's four bytes make the word
-pub word_back : (w : ℕ) → w < 2 ^ 32 → joined (field 24 8 w) (field 16 8 w) (field 8 8 w) (field 0 8 w) ≡ w
-word_back w b =
+-- a word's four bytes are the library's
+pub be_bytes : (w : ℕ) → to_be_bytes w32 w ≡ word_bytes w
+be_bytes w =
     let low : w % 2 ^ 8 ≡ field 0 8 w = omega arith in
-    sum (field 24 8 w) (field 16 8 w) (field 8 8 w) (field 0 8 w) (w % 2 ^ 8) (w % 2 ^ 16) (w % 2 ^ 24) w
-    low (mod-pow-add w 8 8) (mod-pow-add w 8 16) (recompose 8 24 b)
-  where
-    sum : (a b c d x y z w : ℕ) → x ≡ d → y ≡ c * 2 ^ 8 + x → z ≡ b * 2 ^ 16 + y → a * 2 ^ 24 + z ≡ w → joined a b c d ≡ w
-    sum a b c d x y z w p q r s = omega arith
+    ap (λ (b : ℕ). field 24 8 w ∷ field 16 8 w ∷ field 8 8 w ∷ b ∷ []) low
+
+-- they make the word
+pub word_back : (w : ℕ) → w < 2 ^ 32 → joined (field 24 8 w) (field 16 8 w) (field 8 8 w) (field 0 8 w) ≡ w
+word_back w b = omega arith

@@ -15,7 +15,7 @@ use Rattle.ground.proofs.Laws.Scan.{holds, fails_before, some_at, some_first}
 use Rattle.rows.specs.Row.{slots, row_at, row_of, exponent, in_force, spans, covers}
 use Rattle.look.specs.Look.{slot_covers, lowest_slot, translated, look_up, slot_leads, reaches, CoveredBy, WayTo, AllShut}
 use Rattle.look.specs.declared.Translation.{Translation}
-use Rattle.look.specs.declared.Look.TheVariants.{Shut, Open}
+use Rattle.std.specs.Prelude.{Some, None}
 use Rattle.rows.proofs.Laws.Row.{force, led, leads_unmarked, covered_fits, covered_pages}
 
 -- the slot that was found covers the address
@@ -27,12 +27,12 @@ pub lower_cover_not : (windows : List ℕ) (p a s : ℕ) → s < lowest_slot win
 lower_cover_not windows p a s h = fails_before (slot_covers windows p a) 0 16 s (omega arith) h
 
 -- an open look is of a covered address, and of no other
-pub opened : (windows : List ℕ) (p a : ℕ) (t : Translation) → look_up windows p a ≡ Open t → CoveredBy windows p a t
+pub opened : (windows : List ℕ) (p a : ℕ) (t : Translation) → look_up windows p a ≡ Some t → CoveredBy windows p a t
 unfolding look_up pick
 opened windows p a t e = by_test (ltb (lowest_slot windows p a) slots) refl e
   where
     by_test : (b : Bool) → ltb (lowest_slot windows p a) slots ≡ b
-        → pick b (Open (translated (row_of windows p (lowest_slot windows p a)) a)) Shut ≡ Open t → CoveredBy windows p a t
+        → pick b (Some (translated (row_of windows p (lowest_slot windows p a)) a)) None ≡ Some t → CoveredBy windows p a t
     by_test true l q =
         let h = ltb-true (lowest_slot windows p a) 16 l in
         record {

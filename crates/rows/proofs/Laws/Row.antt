@@ -49,6 +49,14 @@ force p w e =
       other = eqb-false (destination w) p (not-true (eqb (destination w) p) d.1);
     }
 
+-- the size of a row in force is below 64, so a shift by it is in range,
+pub force_small : (p : ℕ) (w : Window) → in_force p w ≡ true → exponent w < 64
+force_small p w e = omega (arith, plain_size w (force p w e).plain)
+
+-- and its base is a multiple of 2^k
+pub force_base : (p : ℕ) (w : Window) → in_force p w ≡ true → w.base % 2 ^ exponent w ≡ 0
+force_base p w e = (force p w e).base
+
 -- what a row that leads somewhere tells
 pub led : (p q : ℕ) (marked : Bool) (w : Window) → leads p q marked w ≡ true
     → ((in_force p w && eqb (destination w) q) ≡ true) × (in_force p w ≡ true) × (admits marked w ≡ true)

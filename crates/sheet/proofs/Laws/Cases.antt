@@ -1,5 +1,6 @@
 -- Cases A to N of the exam sheet, as one table: the rule, computed at each case, gives its answer, writes its bytes over any Out
 -- that is long enough, and leaves its logs. By computation; an Out's length matters only in being long enough. Assumes nothing.
+use Rattle.std.specs.Prelude.{Ok, Err}
 use Prim.Native.Nat.{ℕ, ◌≤◌}
 use mathlib.Core.Path.{◌≡◌, refl, ap, ◌∙◌, sym}
 use mathlib.Core.Bool.{Bool, not, ◌||◌}
@@ -24,7 +25,6 @@ use Rattle.numbers.specs.Entries.{look_at}
 use Rattle.numbers.specs.Buses.{is_active}
 use Rattle.logs.specs.Logs.{noted, recorded}
 use Rattle.routing.specs.declared.refusal.Refusal.TheVariants.{WrongCall, SenderInactive}
-use Rattle.routing.specs.declared.rule.Gate.TheVariants.{Closed, Passed}
 use Rattle.routing.specs.Call.{Tables, lent, Asked}
 use Rattle.routing.specs.Rule.{gate_of, owner_plan, completion_plan, to_destination, through_mark, back_mark, carried_way, by_gate}
 use Rattle.switch.specs.Answer.{Answer, refused, way_answer, pass_rule}
@@ -68,8 +68,8 @@ long_enough p s t out h =
     (λ (b : Bool).
     way_answer
     (by_gate
-    (pick (ltb 15 p || not (eqb (length t.windows) 768) || not (eqb (length t.numbers) 80) || not (eqb 96 96) || b) (Closed WrongCall)
-    (pick (not (is_active t.numbers p)) (Closed SenderInactive) Passed))
+    (pick (ltb 15 p || not (eqb (length t.windows) 768) || not (eqb (length t.numbers) 80) || not (eqb 96 96) || b) (Err WrongCall)
+    (pick (not (is_active t.numbers p)) (Err SenderInactive) (Ok tt)))
     way)
     p (header_of s) t.numbers)
     (le-ltb out 4112 h)

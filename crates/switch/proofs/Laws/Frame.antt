@@ -1,5 +1,6 @@
 -- What a passed packet leaves alone, the lengths and every word of the logs outside the sender's row; and the length of an answer. By the
 -- answer: a log is kept or recorded in, and Out is written over from its start. Assumes nothing.
+use Rattle.std.specs.Prelude.{Option, Some, None}
 use Prim.Native.Nat.{ℕ, ◌+◌, ◌^◌, ◌≤◌, ◌<◌}
 use mathlib.Core.Path.{◌≡◌, refl, ap, ◌∙◌}
 use mathlib.Core.Logic.{◌⊎◌}
@@ -19,21 +20,20 @@ use Rattle.tlp.proofs.Laws.Form.{inverted_completion}
 use Rattle.count.proofs.Laws.Answer.{answer_form}
 use Rattle.logs.specs.Logs.{row_width, row_at}
 use Rattle.logs.proofs.Laws.Frame.{recorded_length, recorded_elsewhere}
-use Rattle.switch.specs.declared.after.Logged.{Logged}
-use Rattle.switch.specs.declared.after.Logged.TheVariants.{No, Under}
 use Rattle.switch.specs.Answer.{Answer, crossed, answered, dropped}
 use Rattle.switch.specs.After.{written_of, out_after, log_bit, logged, logs_after}
+use Rattle.logs.specs.declared.Bit.{Bit}
 
 -- ---- the logs
 
-logged_length : (b : Logged) (p : ℕ) (h : Header) (logs : List ℕ) → length (logged b p h logs) ≡ length logs
-logged_length No p h logs = refl
-logged_length (Under b) p h logs = recorded_length p b h logs
+logged_length : (b : Option Bit) (p : ℕ) (h : Header) (logs : List ℕ) → length (logged b p h logs) ≡ length logs
+logged_length None p h logs = refl
+logged_length (Some b) p h logs = recorded_length p b h logs
 
-logged_elsewhere : (b : Logged) (p : ℕ) (h : Header) (logs : List ℕ) (i : ℕ) → (i < row_at p) ⊎ (row_at p + row_width ≤ i)
+logged_elsewhere : (b : Option Bit) (p : ℕ) (h : Header) (logs : List ℕ) (i : ℕ) → (i < row_at p) ⊎ (row_at p + row_width ≤ i)
     → get_or (logged b p h logs) i 0 ≡ get_or logs i 0
-logged_elsewhere No p h logs i o = refl
-logged_elsewhere (Under b) p h logs i o = recorded_elsewhere p b h logs i o
+logged_elsewhere None p h logs i o = refl
+logged_elsewhere (Some b) p h logs i o = recorded_elsewhere p b h logs i o
 
 -- the logs keep their length
 pub length_of_logs : (a : Answer) (p : ℕ) (h : Header) (logs : List ℕ) → length (logs_after a p h logs) ≡ length logs

@@ -1,5 +1,6 @@
 -- A refusal is one of the list's: its number is listed, a read alone is answered, by 5 to 8 and with the answer to it, and but for 1 and 2 the
 -- packet entered. By the refusal, and by what holds at a way. Assumes nothing.
+use Rattle.std.specs.Prelude.{Result, Ok, Err}
 use Prim.Native.Nat.{ℕ, ◌≤◌}
 use mathlib.Core.Path.{◌≡◌, refl, sym}
 use mathlib.Core.Bool.{true, ◌&&◌, true≢false}
@@ -17,7 +18,7 @@ use Rattle.routing.specs.declared.refusal.Refusal.TheVariants.{WrongCall, Sender
 use Rattle.routing.specs.declared.refusal.Refusal.TheVariants.{NoWindow, NoEntry, DestinationInactive, NotPassable}
 use Rattle.switch.specs.declared.answer.Sent.{Sent}
 use Rattle.routing.specs.declared.rule.Way.{Way}
-use Rattle.routing.specs.declared.rule.Way.TheVariants.{Stop, Goes, Comes}
+use Rattle.routing.specs.declared.rule.Way.TheVariants.{Goes, Comes}
 use Rattle.routing.specs.Call.{Asked}
 use Rattle.routing.specs.Rule.{bus_id, pass_way}
 use Rattle.routing.specs.Why.{Entered, going, coming, Why, Holds}
@@ -76,17 +77,17 @@ Listed a (crossed x) = Unit {0}
 Listed a (answered n x) = Answers a n x
 Listed a (dropped n) = Numbered n × (3 ≤ n → Entered a)
 
-listed_way : (a : Asked) (y : Way) → Holds a y → Listed a (way_answer y a.sender a.head a.tables.numbers)
+listed_way : (a : Asked) (y : Result Way Refusal) → Holds a y → Listed a (way_answer y a.sender a.head a.tables.numbers)
 unfolding refused
-listed_way a (Stop r) e =
+listed_way a (Err r) e =
     either (Listed a) (answers_reads r && is_read (kind a.head))
     (λ t.
     let b = both (answers_reads r) (is_read (kind a.head)) t in
     let n = answered_number r b.0 in
     record { number = n; read = b.1; answer = refl; entered = why_right a r (omega (arith, n)) e })
     (λ _. (number_listed r, λ l. why_right a r l e))
-listed_way a (Goes t i) e = tt
-listed_way a (Comes id i) e = tt
+listed_way a (Ok (Goes t i)) e = tt
+listed_way a (Ok (Comes id i)) e = tt
 
 -- every answer
 pub listed : (a : Asked) → Listed a (pass_rule a)

@@ -1,12 +1,12 @@
 -- Two aligned spans overlap exactly if their bases lie in the same block of the larger size: the larger span is such a block, and
 -- the smaller lies in one. Assumes nothing.
-use Prim.Native.Nat.{ℕ, ◌+◌, ◌-◌, ◌*◌, ◌/◌, ◌%◌, ◌^◌, ◌≤◌, ◌<◌}
+use Prim.Native.Nat.{ℕ, max, ◌+◌, ◌-◌, ◌*◌, ◌/◌, ◌%◌, ◌^◌, ◌≤◌, ◌<◌}
 use mathlib.Core.Path.{◌≡◌, refl, sym, ap, ◌∙◌}
-use mathlib.Core.Bool.{Bool, true, false, ◌||◌, or-true, or-false}
+use mathlib.Core.Bool.{Bool, true, false, ◌||◌, or_comm}
 use native.Mathlib.Nat.{mod-lt}
 use native.Mathlib.Omega.{arith}
-use borrow.Author.Tests.{le-leb, lt-ltb, eqb-true, eq-eqb}
-use lib.Dec.{eqb}
+use borrow.Author.Tests.{le-leb, lt-ltb, leb-true, leb-false, eqb-true, eq-eqb}
+use lib.Dec.{eqb, leb}
 use lib.Pow.{pow_pos, split, high, low}
 use Rattle.ground.proofs.Laws.Join.{and_yes}
 use Rattle.rows.specs.Row.{spans}
@@ -65,11 +65,18 @@ nested b k c j h y z = block c j b z ∙ absorbed (spans b k c) (spans c j b) (�
 
 -- where the second is not: the same, named the other way round
 pub nesting : (b k c j : ℕ) → j ≤ k → b % 2 ^ k ≡ 0 → c % 2 ^ j ≡ 0 → eqb (b / 2 ^ k) (c / 2 ^ k) ≡ overlap b k c j
-nesting b k c j h y z = equal (b / 2 ^ k) (c / 2 ^ k) ∙ nested c j b k h z y ∙ turned (spans c j b) (spans b k c)
+nesting b k c j h y z = equal (b / 2 ^ k) (c / 2 ^ k) ∙ nested c j b k h z y ∙ or_comm (spans c j b) (spans b k c)
   where
     equal : (m n : ℕ) → eqb m n ≡ eqb n m
     equal m n = same (eqb m n) (eqb n m) (λ e. eq-eqb n m (sym (eqb-true m n e))) (λ e. eq-eqb m n (sym (eqb-true n m e)))
 
-    turned : (s t : Bool) → (s || t) ≡ (t || s)
-    turned true t = sym (or-true t)
-    turned false t = sym (or-false t)
+-- so, whichever is the larger: the bases lie in the same block of the larger size
+pub blocks : (b k c j : ℕ) → b % 2 ^ k ≡ 0 → c % 2 ^ j ≡ 0 → eqb (b / 2 ^ max k j) (c / 2 ^ max k j) ≡ overlap b k c j
+blocks b k c j y z = by_size (leb k j) refl
+  where
+    at : (n : ℕ) → max k j ≡ n → eqb (b / 2 ^ n) (c / 2 ^ n) ≡ overlap b k c j → eqb (b / 2 ^ max k j) (c / 2 ^ max k j) ≡ overlap b k c j
+    at n e h = rw e h
+
+    by_size : (t : Bool) → leb k j ≡ t → eqb (b / 2 ^ max k j) (c / 2 ^ max k j) ≡ overlap b k c j
+    by_size true l = let h = leb-true k j l in at j (omega arith) (nested b k c j h y z)
+    by_size false l = let h = leb-false k j l in at k (omega arith) (nesting b k c j (omega arith) y z)

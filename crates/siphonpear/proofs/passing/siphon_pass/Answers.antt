@@ -8,7 +8,7 @@ pub returns-then-answer-lt-ANSWER_LENGTH : goal.returns-then-answer-lt-ANSWER_LE
 returns-then-answer-lt-ANSWER_LENGTH c =
     let a = c.args in
     let call = call_of a.p a.packet.now (lent a.windows.now a.numbers.now) a.logs.now a.out.now in
-    too_short_lem call a.answer.now c.if-answer-lt-ANSWER_LENGTH.true
+    rw c.from.ensures (too_short_lem call a.answer.now c.if-answer-lt-ANSWER_LENGTH.true)
 
 pub put_answer-requires : goal.put_answer-requires
 put_answer-requires c =
@@ -21,4 +21,4 @@ returns c =
     let a = c.args in
     let e = c.pass-outcome.ensures in
     let call = call_of a.p a.packet.now (lent a.windows.now a.numbers.now) a.logs.now a.out.now in
-    long_enough call a.answer.now _ _ _ _ _ _ c.if-answer-lt-ANSWER_LENGTH.false e c.number.ensures c.put_answer.ensures
+    long_enough call a.answer.now _ _ _ _ _ _ c.if-answer-lt-ANSWER_LENGTH.false e c.from-2.ensures c.put_answer.ensures

@@ -1,0 +1,2 @@
+-- The functions' proofs stand each in a folder of its function's name.
+pub mod Laws
