@@ -16,13 +16,13 @@ pub fn word(w: u32) -> [u8; 8]
     ensures { result ≡ hex_word w }
 {
     [
-        digit(w >> 28),
-        digit(w >> 24),
-        digit(w >> 20),
-        digit(w >> 16),
-        digit(w >> 12),
-        digit(w >> 8),
-        digit(w >> 4),
+        digit(w / 0x1000_0000),
+        digit(w / 0x0100_0000),
+        digit(w / 0x0010_0000),
+        digit(w / 0x0001_0000),
+        digit(w / 0x1000),
+        digit(w / 0x0100),
+        digit(w / 0x0010),
         digit(w),
     ]
 }

@@ -28,16 +28,16 @@ pub enum Question {
 
 // How far a row answers a question: wholly, or but for the mark.
 #[derive(Clone, Copy, Debug, PartialEq, Eq)]
-struct Fit {
-    whole: bool,
-    half: bool,
+pub struct Fit {
+    pub whole: bool,
+    pub half: bool,
 }
 
 // What a scan has seen: the lowest slot that answers wholly, if one does; and whether a slot below answers but for the mark.
 #[derive(Clone, Copy, Debug, PartialEq, Eq)]
-struct Seen {
-    slot: Option<u8>,
-    half: bool,
+pub struct Seen {
+    pub slot: Option<u8>,
+    pub half: bool,
 }
 
 // How far a row, as one of `p`, answers the question.

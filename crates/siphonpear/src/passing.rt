@@ -25,16 +25,18 @@ fn put_record(outcome: u32, sent: Sent, answer: &mut [u32])
     ensures { answer.new ≡ answer_after (record_words outcome sent) answer.old }
 {
     let h = sent.header;
-    answer[..ANSWER_LENGTH].copy_from_slice(&[
-        outcome,
-        u32::from(sent.partition),
-        sent.length as u32,
-        u32::from(sent.words),
-        h.w0,
-        h.w1,
-        h.w2,
-        h.w3,
-    ]);
+    if let Some(words) = answer.first_chunk_mut() {
+        *words = [
+            outcome,
+            u32::from(sent.partition),
+            sent.length as u32,
+            u32::from(sent.words),
+            h.w0,
+            h.w1,
+            h.w2,
+            h.w3,
+        ];
+    }
 }
 
 // The words of an answer: a packet that was dropped has no record.

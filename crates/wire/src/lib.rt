@@ -1,11 +1,12 @@
 // Writing header and data over the start of a buffer.
 #![tactic(auto, using(crate::proofs::Laws::Write::writing))]
 
-ghost use Rattle.std.specs.Prelude.{◌≡◌, ◌+◌, ◌≤◌, length};
-ghost use Rattle.header.specs.Kind.{header_bytes};
+ghost use Rattle.std.specs.Prelude.{◌≡◌, ◌+◌, ◌≤◌, length, []};
+ghost use Rattle.ground.specs.Pick.{pick};
+ghost use Rattle.header.specs.Kind.{has_four_words, header_bytes};
 ghost use Rattle.header.specs.Fields.{kind};
 ghost use Rattle.header.specs.Words.{word_bytes};
-ghost use Rattle.wire.specs.Write.{header_list, packet_list, over, written_bytes};
+ghost use Rattle.wire.specs.Write.{packet_list, over, written_bytes};
 
 use header::words::Header;
 
@@ -27,14 +28,12 @@ fn put_bytes(out: &mut [u8], at: usize, payload: &[u8])
     }
 }
 
-// A header's words over the start, the fourth where it has one.
-fn put_header(h: Header, out: &mut [u8])
+// The first word, and the fourth where the header has one.
+fn put_outer(h: Header, out: &mut [u8])
     requires { header_bytes (kind h) ≤ length out.old }
-    ensures { out.new ≡ over out.old 0 (header_list h) }
+    ensures { out.new ≡ over (over out.old 0 (word_bytes h.w0)) 12 (pick (has_four_words (kind h)) (word_bytes h.w3) []) }
 {
     put_word(out, 0, h.w0);
-    put_word(out, 4, h.w1);
-    put_word(out, 8, h.w2);
     if h.has_four_words() {
         put_word(out, 12, h.w3);
     }
@@ -50,7 +49,10 @@ pub fn write(h: Header, payload: &[u8], out: &mut [u8]) -> usize
     if out.len() < total {
         return 0;
     }
-    put_header(h, out);
+    // Not in a row, as docs/BENCHMARKS.md says: the fourth word's test and the data's loop keep the first three words apart.
+    put_outer(h, out);
+    put_word(out, 4, h.w1);
     put_bytes(out, n, payload);
+    put_word(out, 8, h.w2);
     total
 }
